@@ -1,0 +1,27 @@
+-- `float::bytes::two` meets its contract. Assumes nothing.
+use native.Mathlib.Omega.{arith}
+use borrow.Author.Needs.{needs}
+use Rattle.float.proofs.ByteLaws.{join}
+use Rattle.float.proofs.bytes.two.Statement.{statement}
+use Rattle.float.proofs.bytes.two.Tie as tie
+
+one-requires : tie.Need-one-requires
+one-requires c κs = search needs
+
+add-one : tie.Need-add-one
+add-one c = search needs
+
+one-requires-2 : tie.Need-one-requires-2
+one-requires-2 c κs = search needs
+
+mul-result : tie.Need-mul-result
+mul-result c = search needs
+
+add-result : tie.Need-add-result
+add-result c = search needs
+
+returns : tie.Need-returns
+returns c = (omega (arith, join 1 1 (c .before .before .before .args .s .now) (c .before .before .before .args .at)), omega arith)
+
+pub two-spec : {M : Type 1} → statement M
+two-spec = tie.close (tie.spec one-requires add-one one-requires-2 mul-result add-result returns)

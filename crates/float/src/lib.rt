@@ -1,0 +1,18 @@
+// What Rust's f64 gives and the port needs, for every f64: signs, order, the whole power, the
+// square root, and an f64 from eight bytes and back.
+mod bytes;
+mod halving;
+mod order;
+mod sign;
+mod square_root;
+
+pub use bytes::from_bytes;
+pub use bytes::pattern;
+pub use halving::whole_power;
+pub use order::clamp;
+pub use order::larger;
+pub use order::smaller;
+pub use order::wild;
+pub use sign::abs;
+pub use sign::signum;
+pub use square_root::root;

@@ -1,0 +1,88 @@
+"""The vectors of crates float and power, and the arithmetic that their answers come from."""
+import math
+import os
+import random
+import re
+import struct
+import sys
+import unittest
+
+TOP = os.path.dirname(os.path.dirname(os.path.abspath(__file__)))
+sys.path.insert(0, os.path.join(TOP, "tools"))
+
+import exact
+import power_tables
+import vectors
+
+
+def read(name):
+    with open(os.path.join(TOP, name), "rb") as source:
+        return source.read()
+
+
+def as_float(p):
+    return struct.unpack("<d", struct.pack("<Q", p))[0]
+
+
+def as_bits(x):
+    return exact.NAN if x != x else struct.unpack("<Q", struct.pack("<d", x))[0]
+
+
+class Vectors(unittest.TestCase):
+    def test_stored_files_are_what_the_generator_makes(self):
+        for name, data in vectors.files().items():
+            self.assertTrue(read(name) == data, name + " is not what tools/vectors.py makes")
+
+    def test_enough_of_each(self):
+        lines = read("crates/float_vectors/stdout").decode().splitlines()
+        counts = {name: sum(l.startswith(name + " ") for l in lines) for name in vectors.FUNCTIONS}
+        self.assertGreaterEqual(counts["root"], 1000)
+        self.assertTrue(all(n >= 50 for n in counts.values()), counts)
+        fields = {int(l.split()[1], 16) >> 52 for l in lines if l.startswith("root ")}
+        self.assertGreaterEqual(len(fields), 1000)
+        self.assertGreaterEqual(len(read("crates/power_vectors/stdout").splitlines()), 1000)
+
+
+class Arithmetic(unittest.TestCase):
+    """tools/exact.py uses whole numbers alone; the processor's own arithmetic is a second opinion on it."""
+
+    def patterns(self):
+        rng = random.Random(3)
+        for _ in range(20000):
+            near = rng.random() < 0.5
+            p = rng.getrandbits(64)
+            q = p + (rng.randrange(-5, 6) << 40) if near else rng.getrandbits(64)
+            yield exact.canonical(p), exact.canonical(q % (1 << 64))
+        for p in vectors.EDGES:
+            for q in vectors.EDGES:
+                yield exact.canonical(p), exact.canonical(q)
+
+    def test_operations(self):
+        for p, q in self.patterns():
+            x, y = as_float(p), as_float(q)
+            self.assertEqual(exact.mul(p, q), as_bits(x * y))
+            self.assertEqual(exact.add(p, q), as_bits(x + y))
+            self.assertEqual(exact.sub(p, q), as_bits(x - y))
+            self.assertEqual(exact.less(p, q), x < y)
+
+    def test_root(self):
+        for p, _ in self.patterns():
+            x = as_float(p)
+            self.assertEqual(exact.root(p), as_bits(math.sqrt(x) if x >= 0 or x != x else math.nan))
+
+
+class Tables(unittest.TestCase):
+    """The tables of code and definition are those that whole numbers give."""
+
+    def numbers(self, name):
+        return [int(h, 16) for h in re.findall(r"^ +0x([0-9a-f]{16})\b", read(name).decode(), re.M)]
+
+    def test_code_and_definition(self):
+        both = power_tables.table_a() + power_tables.table_b()
+        self.assertEqual(len(both), 1025 + 128)
+        self.assertEqual(self.numbers("crates/power/src/tables.rt"), both)
+        self.assertEqual(self.numbers("crates/power/specs/Tables.antt"), both)
+
+
+if __name__ == "__main__":
+    unittest.main()

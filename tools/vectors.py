@@ -1,0 +1,148 @@
+#!/usr/bin/env python3
+"""Vectors for crates float and power, with answers from whole numbers (exact.py, power_tables.py).
+
+  vectors.py     writes stdin and stdout of crates float_vectors and power_vectors
+"""
+import os
+import random
+import struct
+
+import exact
+from exact import INFINITY, NAN, ONE, SIGN
+from power_tables import table_a, table_b
+
+FUNCTIONS = ["root", "abs", "signum", "larger", "smaller", "clamp", "wild", "whole_power", "pattern"]
+
+# zeros, subnormals, powers of two, the largest, the infinities, NaNs of both signs and other payloads
+EDGES = [0, 1, 2, 3, (1 << 52) - 1, 1 << 52, (1 << 52) + 1, ONE - 1, ONE, ONE + 1, 2 << 61, 0x4002 << 48,
+         0x3BF0 << 48, (0x3BF0 << 48) - 1, 0x43F0 << 48, (0x43F0 << 48) - 1, INFINITY - 1, INFINITY]
+EDGES = [p | s for p in EDGES for s in (0, SIGN)] + [NAN, NAN | SIGN, INFINITY + 1, SIGN | INFINITY + 1, (1 << 64) - 1]
+
+
+def number(n):
+    """The pattern of n * 2^-1074, for an n that an f64 holds."""
+    p = exact.rounded(0, n, 1)
+    assert exact.magnitude(p) == n
+    return p
+
+
+def root_arguments(rng):
+    yield from EDGES
+    for field in range(2047):  # every exponent
+        if field % 2 == 0 or field < 60 or field > 1990:
+            yield field << 52 | rng.getrandbits(52)
+    for bits in range(1, 53):  # every length of a subnormal
+        yield rng.getrandbits(bits) | 1 << bits - 1
+    for k in range(150):  # exact squares and their neighbours, at both parities of the exponent
+        r = rng.getrandbits(26) | 1 << 25
+        shift = 2 * rng.randrange(400, 700)
+        p = number(r * r << shift)
+        yield from (p - 1, p, p + 1, number(2 * r * r << shift))
+    for k in range(100):  # just below and above the square of a middle
+        r = rng.getrandbits(52) | 1 << 52
+        square = (2 * r + 1) ** 2
+        low = square >> square.bit_length() - 53
+        p = number(low << 1000 + k % 2)
+        yield from (p, p + 1)
+
+
+def float_vectors():
+    rng = random.Random(1)
+    wide = lambda: rng.getrandbits(64)
+    pick = lambda: rng.choice(EDGES) if rng.random() < 0.5 else wide()
+    for p in root_arguments(rng):
+        yield "root", p, 0, 0
+    for name in ("abs", "signum", "wild", "pattern"):
+        for p in EDGES + [wide() for _ in range(40)]:
+            yield name, p, 0, 0
+    for p in ((0x43F0 << 48) + d | s for d in (-2, -1, 0, 1) for s in (0, SIGN)):
+        yield "wild", p, 0, 0
+    for name in ("larger", "smaller", "clamp"):
+        for _ in range(150):
+            a, b = pick(), pick()
+            yield name, a, a if rng.random() < 0.1 else b, pick()
+    for n in list(range(20)) + [31, 32, 33, 63, 64, 100, 127, 128, 200, 255]:
+        for p in EDGES[::4] + [rng.randrange(1015, 1030) << 52 | rng.getrandbits(52) for _ in range(4)]:
+            yield "whole_power", p, n, 0
+
+
+def float_answer(name, x, y, z):
+    """The line that a vector's function gives."""
+    x = exact.canonical(x)
+    if name == "whole_power":
+        return "whole_power %d %016x %016x" % (y, x, exact.whole_power(x, y))
+    y, z = exact.canonical(y), exact.canonical(z)
+    sign = x & SIGN
+    if name == "root":
+        args, r = (x,), exact.root(x)
+    elif name == "abs":
+        args, r = (x,), x & ~SIGN
+    elif name == "signum":
+        args, r = (x,), NAN if x == NAN else sign | ONE
+    elif name == "larger":
+        args, r = (x, y), y if x == NAN or exact.less(x, y) else x
+    elif name == "smaller":
+        args, r = (x, y), y if x == NAN or exact.less(y, x) else x
+    elif name == "clamp":
+        args, r = (x, y, z), y if exact.less(x, y) else z if exact.less(z, x) else x
+    elif name == "wild":
+        args, r = (x,), ONE if x & ~SIGN >= 0x43F0 << 48 else 0
+    else:
+        args, r = (x,), x
+    return name + "".join(" %016x" % p for p in args + (r,))
+
+
+def power_vectors():
+    rng = random.Random(2)
+    yield from EDGES
+    for field in range(959, 1087):  # every exponent, at its ends and inside
+        yield from (field << 52, (field << 52) + 1, (field + 1 << 52) - 1, field << 52 | rng.getrandbits(52))
+    for i in range(0, 1024, 3):  # steps of 1/1,024 and what lies next to them
+        p = rng.randrange(959, 1087) << 52 | i << 42
+        yield from (p, p + 1, p + (1 << 42) - 1, p | rng.getrandbits(42))
+    for _ in range(300):
+        yield rng.getrandbits(64)
+
+
+def power(p, a, b):
+    """Document 01, item 2, on a pattern."""
+    p = exact.canonical(p)
+    if p == NAN or p > SIGN:
+        return NAN
+    if p == SIGN or p < 0x3BF0 << 48:
+        return 0
+    if p >= 0x43F0 << 48:
+        return INFINITY
+    i, rest = p >> 42 & 1023, p & (1 << 42) - 1
+    t = exact.rounded(0, rest << 1074 - 42, 1)
+    assert exact.magnitude(t) << 42 == rest << 1074
+    step = exact.mul(t, exact.sub(a[i + 1], a[i]))
+    e = (p >> 52) - 1023
+    return exact.mul(exact.add(a[i], step), b[63 - e])
+
+
+def files():
+    """Each file's path below the repository, and its bytes."""
+    floats = list(float_vectors())
+    a, b = table_a(), table_b()
+    powers = list(power_vectors())
+    # a whole power's exponent is the first byte of the second number
+    record = lambda name, x, y, z: struct.pack("<BQQQ", FUNCTIONS.index(name), x, y, z)
+    lines = lambda rows: "".join(r + "\n" for r in rows).encode()
+    return {
+        "crates/float_vectors/stdin": b"".join(record(*v) for v in floats),
+        "crates/float_vectors/stdout": lines(float_answer(*v) for v in floats),
+        "crates/power_vectors/stdin": b"".join(struct.pack("<Q", p) for p in powers),
+        "crates/power_vectors/stdout": lines("%016x %016x" % (exact.canonical(p), power(p, a, b)) for p in powers),
+    }
+
+
+def main():
+    top = os.path.dirname(os.path.dirname(os.path.abspath(__file__)))
+    for name, data in files().items():
+        with open(os.path.join(top, name), "wb") as out:
+            out.write(data)
+
+
+if __name__ == "__main__":
+    main()
