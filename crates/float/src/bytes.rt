@@ -6,32 +6,32 @@ ghost use lib.Ieee.{binary64, toBits};
 ghost use Rattle.float.specs.Bytes.{littleEndian, fromBytes};
 
 // One byte as a number; the next three are the numbers of two, four and eight bytes from `at` on, the lowest byte first.
-fn one(s: &[u8], at: usize) -> u64
+fn byte(s: &[u8], at: usize) -> u64
     requires { ⌜ at < length (now s) ⌝ }
     ensures { λ r. ⌜ (r ≡ littleEndian 1 (now (s .entry)) at) × (r < 2 ^ 8) ⌝ }
 {
     s[at] as u64
 }
 
-fn two(s: &[u8], at: usize) -> u64
+pub fn two_bytes(s: &[u8], at: usize) -> u64
     requires { ⌜ at + 2 ≤ length (now s) ⌝ }
     ensures { λ r. ⌜ (r ≡ littleEndian 2 (now (s .entry)) at) × (r < 2 ^ 16) ⌝ }
 {
-    one(s, at) + one(s, at + 1) * 0x100
+    byte(s, at) + byte(s, at + 1) * 0x100
 }
 
-fn four(s: &[u8], at: usize) -> u64
+fn four_bytes(s: &[u8], at: usize) -> u64
     requires { ⌜ at + 4 ≤ length (now s) ⌝ }
     ensures { λ r. ⌜ (r ≡ littleEndian 4 (now (s .entry)) at) × (r < 2 ^ 32) ⌝ }
 {
-    two(s, at) + two(s, at + 2) * 0x1_0000
+    two_bytes(s, at) + two_bytes(s, at + 2) * 0x1_0000
 }
 
-fn eight(s: &[u8], at: usize) -> u64
+fn eight_bytes(s: &[u8], at: usize) -> u64
     requires { ⌜ at + 8 ≤ length (now s) ⌝ }
     ensures { λ r. ⌜ r ≡ littleEndian 8 (now (s .entry)) at ⌝ }
 {
-    four(s, at) + four(s, at + 4) * 0x1_0000_0000
+    four_bytes(s, at) + four_bytes(s, at + 4) * 0x1_0000_0000
 }
 
 // The f64 whose pattern the eight bytes from `at` on are; NaN for any pattern of a NaN.
@@ -39,7 +39,7 @@ pub fn from_bytes(s: &[u8], at: usize) -> f64
     requires { ⌜ at + 8 ≤ length (now s) ⌝ }
     ensures { λ r. ⌜ r ≡ fromBytes (now (s .entry)) at ⌝ }
 {
-    let p = eight(s, at);
+    let p = eight_bytes(s, at);
     if p % 0x8000_0000_0000_0000 > 0x7ff0_0000_0000_0000 {
         return 0.0 / 0.0;
     }

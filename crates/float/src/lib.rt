@@ -8,6 +8,7 @@ mod square_root;
 
 pub use bytes::from_bytes;
 pub use bytes::pattern;
+pub use bytes::two_bytes;
 pub use halving::whole_power;
 pub use order::clamp;
 pub use order::larger;

@@ -1,10 +1,10 @@
--- `float::bytes::one` meets its contract. Assumes nothing.
+-- `float::bytes::byte` meets its contract. Assumes nothing.
 use native.Mathlib.Omega.{arith}
 use mathlib.Core.Path.{sym}
 use borrow.Author.Needs.{needs}
 use Rattle.float.proofs.ByteLaws.{single}
-use Rattle.float.proofs.bytes.one.Statement.{statement}
-use Rattle.float.proofs.bytes.one.Tie as tie
+use Rattle.float.proofs.bytes.byte.Statement.{statement}
+use Rattle.float.proofs.bytes.byte.Tie as tie
 
 shared-slice-read-result : tie.Need-shared-slice-read-result
 shared-slice-read-result c = search needs
@@ -15,5 +15,5 @@ cast-result c = omega (arith, c .shared-slice-known .given (c .before .args .at)
 returns : tie.Need-returns
 returns c = (sym (single (c .before .args .s .now) (c .before .args .at)), omega (arith, c .shared-slice-known .given (c .before .args .at)))
 
-pub one-spec : {M : Type 1} → statement M
-one-spec = tie.close (tie.spec shared-slice-read-result cast-result returns)
+pub byte-spec : {M : Type 1} → statement M
+byte-spec = tie.close (tie.spec shared-slice-read-result cast-result returns)

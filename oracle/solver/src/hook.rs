@@ -1,0 +1,59 @@
+//! What substitution S2 calls: the test for refusal 7, and the deep trace.
+
+use crate::error::SolverError;
+use crate::solver::state::SolverState;
+use simplelog::trace::{self, Event};
+use std::cell::Cell;
+
+thread_local! {
+    static DEEP: Cell<bool> = const { Cell::new(false) };
+}
+
+/// Also put heads and flows of each stepped trial on the trace.
+pub fn deep(on: bool) {
+    DEEP.with(|d| d.set(on));
+}
+
+/// Document 01, refusal 7: a head or flow that is NaN, infinite or at least
+/// 2^64 in magnitude; the first such node, else 64 + the first such link.
+pub fn place_of_seven(heads: &[f64], flows: &[f64]) -> Option<usize> {
+    let limit = 18_446_744_073_709_551_616.0;
+    let bad = |x: &f64| x.is_nan() || x.abs() >= limit;
+    let node = heads.iter().position(bad);
+    node.or_else(|| flows.iter().position(bad).map(|link| 64 + link))
+}
+
+/// Called where document 01 puts the test: after the tank links, before damping.
+pub fn stepped(state: &SolverState) -> Result<(), SolverError> {
+    if trace::on() && DEEP.with(|d| d.get()) {
+        trace::push(Event::State {
+            heads: state.heads.clone(),
+            flows: state.flows.clone(),
+        });
+    }
+    if cfg!(feature = "seven")
+        && let Some(place) = place_of_seven(&state.heads, &state.flows)
+    {
+        if trace::on() {
+            trace::push(Event::NotFinite { place });
+        }
+        // the original's enum has no such case; the driver goes by the trace
+        return Err(SolverError::Factorization(format!("refusal 7 at {place}")));
+    }
+    Ok(())
+}
+
+#[cfg(test)]
+mod tests {
+    use super::place_of_seven;
+
+    #[test]
+    fn nodes_before_links() {
+        let limit = 18_446_744_073_709_551_616.0;
+        let under = f64::from_bits(f64::to_bits(limit) - 1);
+        assert_eq!(place_of_seven(&[0.0, under], &[-under]), None);
+        assert_eq!(place_of_seven(&[0.0, -limit], &[f64::NAN]), Some(1));
+        assert_eq!(place_of_seven(&[0.0], &[1.0, f64::INFINITY]), Some(65));
+        assert_eq!(place_of_seven(&[], &[]), None);
+    }
+}
