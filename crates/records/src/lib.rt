@@ -1,0 +1,22 @@
+// The records of the network sheet by value, their codes, and where they stand.
+mod codes;
+mod offsets;
+mod records;
+
+pub use codes::LinkKind;
+pub use codes::NodeKind;
+pub use codes::Status;
+pub use codes::status_code;
+pub use codes::status_of;
+pub use offsets::LK_SIZE;
+pub use offsets::ND_SIZE;
+pub use offsets::OP_SIZE;
+pub use offsets::link_offset;
+pub use offsets::node_offset;
+pub use records::Link;
+pub use records::Node;
+pub use records::Options;
+pub use records::link_at;
+pub use records::node_at;
+pub use records::options_of;
+pub use records::short;

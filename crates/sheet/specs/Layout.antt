@@ -1,0 +1,33 @@
+-- Where the records of a sheet stand. Definitions only.
+use Prim.Native.Nat.{ℕ, zero, suc, _+_}
+use mathlib.Core.Bool.{Bool, cond, _&&_}
+use mathlib.Core.List.{List}
+use lib.Dec.{eqb, leb}
+use lib.ListN.{length, getD}
+use Rattle.records.specs.Offsets.{nodeOffset, linkOffset}
+
+-- a record of `size` bytes with the mark's two letters can be read at `at`
+unfoldable pub readable : ℕ → ℕ → ℕ → List ℕ → ℕ → Bool
+readable first second size s at = leb (at + size) (length s) && (eqb (getD s at 0) first && eqb (getD s (at + 1) 0) second)
+
+-- how many such records, of k at most, stand one behind the other from `at` on
+unfoldable pub runOf : ℕ → ℕ → ℕ → ℕ → List ℕ → ℕ → ℕ
+unfolding readable
+runOf first second size zero s at = 0
+runOf first second size (suc k) s at = cond {A = ℕ} (readable first second size s at) (suc (runOf first second size k s (at + size))) 0
+
+-- one OP can be read; then so many ND; then so many LK; and where they end
+unfoldable pub hasOptions : List ℕ → Bool
+hasOptions s = readable 79 80 29 s 0
+
+unfoldable pub nodesOf : List ℕ → ℕ
+unfolding runOf
+nodesOf s = runOf 78 68 45 (length s) s 29
+
+unfoldable pub linksOf : List ℕ → ℕ
+unfolding runOf nodesOf
+linksOf s = runOf 76 75 49 (length s) s (nodeOffset (nodesOf s))
+
+unfoldable pub endOf : List ℕ → ℕ
+unfolding nodesOf linksOf
+endOf s = linkOffset (nodesOf s) (linksOf s)

@@ -1,0 +1,56 @@
+"""Refusals 1 to 4: the second reading of document 01 against the stored list, and what crate sheet_list replays."""
+import os
+import sys
+import unittest
+
+TOP = os.path.dirname(os.path.dirname(os.path.abspath(__file__)))
+sys.path.insert(0, os.path.join(TOP, "tools"))
+
+import oracle
+import sheet_reading
+import sheets
+
+
+def stored(name):
+    with open(os.path.join(TOP, name), "rb") as source:
+        return source.read()
+
+
+class Reading(unittest.TestCase):
+    def test_agrees_with_the_oracle(self):
+        listings = oracle.split(stored("tests/list/listings.txt").decode())
+        cases = sheets.stored()
+        self.assertEqual(len(listings), len(cases))
+        for case, listing in zip(cases, listings):
+            number, place = (int(x) for x in listing.split()[1:3])
+            kind, x, y = sheet_reading.reading(case.data)
+            if 1 <= number <= 4:
+                self.assertEqual((kind, x, y), ("R", number, place), case.name)
+            else:
+                self.assertEqual(kind, "G", case.name)
+
+    def test_stored_files_are_what_the_generator_makes(self):
+        for name, data in sheet_reading.files().items():
+            self.assertTrue(stored(name) == data, name + " is not what tools/sheet_reading.py makes")
+
+    def test_reaches_every_refusal_and_both_sides_of_each_bound(self):
+        answers = stored("crates/sheet_list/stdout").decode().splitlines()
+        for start in ("R 1 ", "R 2 0", "R 2 1", "R 3 ", "R 4 ", "G 64 ", "G 1 ", "G 2 0"):
+            self.assertTrue(any(a.startswith(start) for a in answers), start)
+        self.assertTrue(any(a.startswith("G ") and a.endswith(" 128") for a in answers))
+        self.assertGreaterEqual(len(answers), 700)
+
+    def test_each_cut_is_refused_at_its_record(self):
+        cuts = sheet_reading.cuts()
+        starts = [0, 29, 74, 119, 168]
+        for n, data in enumerate(cuts):
+            kind, number, place = sheet_reading.reading(data)
+            if n in starts[1:]:
+                whole = {29: ("R", 2, 0), 74: ("G", 1, 0), 119: ("G", 2, 0), 168: ("G", 2, 1)}[n]
+                self.assertEqual((kind, number, place), whole)
+            else:
+                self.assertEqual((kind, number, place), ("R", 1, max(s for s in starts if s <= n)))
+
+
+if __name__ == "__main__":
+    unittest.main()
