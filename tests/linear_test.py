@@ -1,28 +1,11 @@
 """The systems of crate linear_vectors, and the recipe that their answers come from."""
 import math
-import os
-import struct
-import sys
 import unittest
 
-TOP = os.path.dirname(os.path.dirname(os.path.abspath(__file__)))
-sys.path.insert(0, os.path.join(TOP, "tools"))
+from numbers_test import as_bits, as_float, read  # which also finds tools/
 
 import exact
 import linear_vectors
-
-
-def read(name):
-    with open(os.path.join(TOP, name), "rb") as source:
-        return source.read()
-
-
-def as_float(p):
-    return struct.unpack("<d", struct.pack("<Q", p))[0]
-
-
-def as_bits(x):
-    return exact.NAN if x != x else struct.unpack("<Q", struct.pack("<d", x))[0]
 
 
 class Systems(unittest.TestCase):

@@ -4,8 +4,8 @@ ghost use Prim.Native.Nat.{suc, _-_, _<_, _≤_};
 ghost use lib.ListN.{length};
 ghost use Rattle.linear.specs.Substitution.{lessTerm, after, solved};
 
-// Subtracts from each row of x after k the term of unknown k. The rows before are done with, so
-// every row still has its terms subtracted in ascending order, and this loop runs down a column.
+// Subtracts from each row of x after k the term of unknown k. Called as each unknown becomes known,
+// it takes every row's terms in ascending order and runs down a column, as `subtract` does.
 fn subtract_term(l: &[f64], n: usize, k: usize, x: &mut [f64])
     requires { ⌜ (length (now l) ≡ 4096) × ((k < n) × ((n ≤ 64) × (n ≤ length (now x)))) ⌝ }
     ensures { λ _. ⌜ now (x .exit) ≡ lessTerm (now (l .entry)) k (n - suc k) (now (x .entry)) ⌝ }
