@@ -28,6 +28,13 @@ def as_bits(x):
     return exact.NAN if x != x else struct.unpack("<Q", struct.pack("<d", x))[0]
 
 
+def quotient(x, y):
+    """The processor's quotient; python raises an error for a divisor of zero."""
+    if y != 0:
+        return x / y
+    return math.nan if x == 0 or x != x else math.copysign(math.inf, x) * math.copysign(1, y)
+
+
 class Vectors(unittest.TestCase):
     def test_stored_files_are_what_the_generator_makes(self):
         for name, data in vectors.files().items():
@@ -61,6 +68,7 @@ class Arithmetic(unittest.TestCase):
         for p, q in self.patterns():
             x, y = as_float(p), as_float(q)
             self.assertEqual(exact.mul(p, q), as_bits(x * y))
+            self.assertEqual(exact.div(p, q), as_bits(quotient(x, y)))
             self.assertEqual(exact.add(p, q), as_bits(x + y))
             self.assertEqual(exact.sub(p, q), as_bits(x - y))
             self.assertEqual(exact.less(p, q), x < y)

@@ -51,6 +51,19 @@ def mul(a, b):
     return rounded(sign, magnitude(a) * magnitude(b), 1 << 1074)
 
 
+def div(a, b):
+    if is_nan(a) or is_nan(b):
+        return NAN
+    sign, a, b = (a ^ b) & SIGN, a & ~SIGN, b & ~SIGN
+    if a == b and a in (0, INFINITY):
+        return NAN
+    if a == INFINITY or b == 0:
+        return sign | INFINITY
+    if b == INFINITY:
+        return sign
+    return rounded(sign, magnitude(a) << 1074, magnitude(b))
+
+
 def add(a, b):
     if is_nan(a) or is_nan(b):
         return NAN

@@ -1,0 +1,74 @@
+"""The systems of crate linear_vectors, and the recipe that their answers come from."""
+import math
+import unittest
+
+from numbers_test import as_bits, as_float, read  # which also finds tools/
+
+import exact
+import linear_vectors
+
+
+class Systems(unittest.TestCase):
+    def test_stored_files_are_what_the_generator_makes(self):
+        for name, data in linear_vectors.files().items():
+            self.assertTrue(read(name) == data, name + " is not what tools/linear_vectors.py makes")
+
+    def test_enough_of_each(self):
+        ends, n = set(), None
+        for line in read("crates/linear_vectors/stdout").decode().splitlines():
+            if line[0].isdigit():
+                n = int(line)
+            elif line[0] != "L":
+                ends.add((n, line.split()[1] if line[0] == "S" else "X"))
+        for size in (0, 1, 2, 5, 64):
+            self.assertIn((size, "X"), ends)
+        for end in [(1, "0"), (2, "1"), (5, "0"), (5, "2"), (5, "4"), (64, "31"), (64, "63")]:
+            self.assertIn(end, ends)
+
+    def test_special_numbers(self):
+        given = [p for a, x in linear_vectors.systems() for row in a + [x] for p in row]
+        for p in linear_vectors.SPECIAL:
+            self.assertGreaterEqual(given.count(p), 5)
+        self.assertGreaterEqual(sum(0 < p & ~exact.SIGN < 1 << 52 for p in given), 100)
+
+
+class Columns(unittest.TestCase):
+    """The processor's own arithmetic, column by column as crate linear goes, is a second opinion on the recipe."""
+
+    def factor(self, a):
+        for c in range(len(a)):
+            for k in range(c):
+                for row in a[c:]:
+                    row[c] -= row[k] * a[c][k]
+            if not a[c][c] > 0:
+                return c
+            a[c][c] = math.sqrt(a[c][c])
+            for row in a[c + 1:]:
+                row[c] /= a[c][c]
+        return None
+
+    def solve(self, l, x):
+        n = len(l)
+        for k in range(n):
+            x[k] /= l[k][k]
+            for r in range(k + 1, n):
+                x[r] -= l[r][k] * x[k]
+        for r in reversed(range(n)):
+            for k in range(r + 1, n):
+                x[r] -= l[k][r] * x[k]
+            x[r] /= l[r][r]
+
+    def test_recipe(self):
+        for a, x in linear_vectors.systems():
+            b, y = [[as_float(p) for p in row] for row in a], [as_float(p) for p in x]
+            stop = linear_vectors.factor(a)
+            self.assertEqual(stop, self.factor(b))
+            if stop is None:
+                linear_vectors.solve(a, x)
+                self.solve(b, y)
+            patterns = [[exact.canonical(p) for p in row] for row in a + [x]]
+            self.assertEqual(patterns, [[as_bits(v) for v in row] for row in b + [y]])
+
+
+if __name__ == "__main__":
+    unittest.main()
