@@ -6,6 +6,7 @@ from numbers_test import as_bits, as_float, read  # which also finds tools/
 
 import exact
 import linear_vectors
+import oracle
 
 
 class Systems(unittest.TestCase):
@@ -30,6 +31,33 @@ class Systems(unittest.TestCase):
         for p in linear_vectors.SPECIAL:
             self.assertGreaterEqual(given.count(p), 5)
         self.assertGreaterEqual(sum(0 < p & ~exact.SIGN < 1 << 52 for p in given), 100)
+
+
+class Oracle(unittest.TestCase):
+    """The stored answers are the oracle's, bit for bit, where it can be built."""
+
+    @classmethod
+    def setUpClass(cls):
+        if oracle.lacking():
+            raise unittest.SkipTest("no oracle is built: %s not there" % " and ".join(oracle.lacking()))
+        status, said = oracle.build("recipe")
+        if status != 0:
+            raise AssertionError(said)
+
+    def test_factor_and_substitute(self):
+        lines, expected = [], []
+        for a, x in linear_vectors.systems():
+            numbers = ["%016x" % p for row in a + [x] for p in row]
+            lines.append(" ".join(["F", str(len(x))] + numbers))
+            expected.append(linear_vectors.answer([row[:] for row in a], x[:])[-1])
+        found = oracle.run("recipe", ("\n".join(lines) + "\n").encode(), "--parts").splitlines()
+        self.assertEqual(len(found), len(expected))
+        for got, want in zip(found, expected):
+            want = want.split()
+            if want[0] == "S":
+                self.assertEqual(got, "column " + want[1])
+            else:
+                self.assertEqual(got.split(), want[1:])
 
 
 class Columns(unittest.TestCase):

@@ -5,7 +5,6 @@ are checked against each other and against document 01 alone.
 """
 import os
 import re
-import shutil
 import subprocess
 import sys
 import unittest
@@ -190,14 +189,9 @@ class Tools(unittest.TestCase):
 class Oracle(unittest.TestCase):
     @classmethod
     def setUpClass(cls):
-        lacking = []
-        if not os.path.isfile(os.path.join(SOURCES, "solver", "hydraulicsolver.rs")):
-            lacking.append("the Rust sources")
-        if not shutil.which("cargo"):
-            lacking.append("cargo")
-        if lacking:
+        if oracle.lacking():
             reason = ("no oracle is built: %s not there; the stored list stands alone"
-                      % " and ".join(lacking))
+                      % " and ".join(oracle.lacking()))
             print(reason, file=sys.stderr)
             raise unittest.SkipTest(reason)
         status, cls.said = oracle.build("recipe", "plain")

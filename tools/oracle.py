@@ -1,5 +1,6 @@
 """Runs the oracle's builds and reads their listings."""
 import os
+import shutil
 import struct
 import subprocess
 
@@ -7,6 +8,13 @@ from sheet_format import pack_many
 
 ROOT = os.path.dirname(os.path.dirname(os.path.abspath(__file__)))
 FOLDER = os.path.join(ROOT, "oracle")
+SOURCES = os.environ.get("ORACLE_SOURCES", os.path.join(ROOT, "..", "shared", "docs", "src", "src"))
+
+
+def lacking():
+    """What is not there to build with."""
+    sources = os.path.isfile(os.path.join(SOURCES, "solver", "hydraulicsolver.rs"))
+    return ([] if sources else ["the Rust sources"]) + ([] if shutil.which("cargo") else ["cargo"])
 
 
 def build(*names):
