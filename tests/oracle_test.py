@@ -19,7 +19,7 @@ from sheet_format import LINK_KINDS, STATUSES, Sheet, decode  # noqa: E402
 
 LIST = os.path.join(ROOT, "tests", "list")
 EXAMPLES = os.path.join(ROOT, "examples")
-SOURCES = os.environ.get("ORACLE_SOURCES", os.path.join(ROOT, "..", "shared", "docs", "src", "src"))
+
 
 EXAMPLE = """A 0 0 2 0 1
 T GN 1
@@ -253,7 +253,7 @@ class Oracle(unittest.TestCase):
              "--target-dir", "target/recipe"],
             cwd=os.path.join(ROOT, "oracle"), stdout=subprocess.PIPE, stderr=subprocess.STDOUT,
             universal_newlines=True, check=False,
-            env=dict(os.environ, ORACLE_SOURCES=os.path.abspath(SOURCES)))
+            env=dict(os.environ, ORACLE_SOURCES=os.path.abspath(oracle.SOURCES)))
         self.assertEqual(done.returncode, 0, done.stdout)
         self.assertIn("test result: ok", done.stdout)
 

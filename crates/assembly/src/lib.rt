@@ -1,0 +1,8 @@
+// Document 01, item 6: the numbering of the unknowns.
+mod numbering;
+
+pub use numbering::NodeIndex;
+pub use numbering::Row;
+pub use numbering::node_of;
+pub use numbering::number_unknowns;
+pub use numbering::unknown_of;
