@@ -2,11 +2,12 @@
 import math
 import unittest
 
-from numbers_test import as_bits, as_float, read  # which also finds tools/
+from numbers_test import as_bits, as_float  # which also finds tools/
 
 import exact
 import linear_vectors
 import oracle
+from stored import read
 
 
 class Systems(unittest.TestCase):

@@ -13,11 +13,7 @@ sys.path.insert(0, os.path.join(TOP, "tools"))
 import exact
 import power_tables
 import vectors
-
-
-def read(name):
-    with open(os.path.join(TOP, name), "rb") as source:
-        return source.read()
+from stored import read
 
 
 def as_float(p):

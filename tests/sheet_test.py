@@ -9,16 +9,12 @@ sys.path.insert(0, os.path.join(TOP, "tools"))
 import oracle
 import sheet_reading
 import sheets
-
-
-def stored(name):
-    with open(os.path.join(TOP, name), "rb") as source:
-        return source.read()
+from stored import read
 
 
 class Reading(unittest.TestCase):
     def test_agrees_with_the_oracle(self):
-        listings = oracle.split(stored("tests/list/listings.txt").decode())
+        listings = oracle.split(read("tests/list/listings.txt").decode())
         cases = sheets.stored()
         self.assertEqual(len(listings), len(cases))
         for case, listing in zip(cases, listings):
@@ -31,10 +27,10 @@ class Reading(unittest.TestCase):
 
     def test_stored_files_are_what_the_generator_makes(self):
         for name, data in sheet_reading.files().items():
-            self.assertTrue(stored(name) == data, name + " is not what tools/sheet_reading.py makes")
+            self.assertTrue(read(name) == data, name + " is not what tools/sheet_reading.py makes")
 
     def test_reaches_every_refusal_and_both_sides_of_each_bound(self):
-        answers = stored("crates/sheet_list/stdout").decode().splitlines()
+        answers = read("crates/sheet_list/stdout").decode().splitlines()
         for start in ("R 1 ", "R 2 0", "R 2 1", "R 3 ", "R 4 ", "G 64 ", "G 1 ", "G 2 0"):
             self.assertTrue(any(a.startswith(start) for a in answers), start)
         self.assertTrue(any(a.startswith("G ") and a.endswith(" 128") for a in answers))

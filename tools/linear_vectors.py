@@ -5,11 +5,11 @@
 
 A system is its lower triangle, a list of rows, and its right side, all bit patterns.
 """
-import os
 import random
 import struct
 
 import exact
+import stored
 from exact import INFINITY, NAN, ONE, SIGN
 
 
@@ -156,12 +156,5 @@ def files():
     }
 
 
-def main():
-    top = os.path.dirname(os.path.dirname(os.path.abspath(__file__)))
-    for name, data in files().items():
-        with open(os.path.join(top, name), "wb") as out:
-            out.write(data)
-
-
 if __name__ == "__main__":
-    main()
+    stored.write(files())

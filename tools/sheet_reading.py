@@ -3,14 +3,13 @@
 
   sheet_reading.py     writes stdin and stdout of crate sheet_list
 """
-import os
 import struct
 
 import sheets
+import stored
 from sheet_format import BYTES, LAYOUT, Sheet, pack_many
 
 MOST_NODES, MOST_LINKS, MOST_TRIALS = 64, 128, 200
-TOP = os.path.dirname(os.path.dirname(os.path.abspath(__file__)))
 
 
 def records(data):
@@ -95,11 +94,5 @@ def files():
     }
 
 
-def main():
-    for name, data in files().items():
-        with open(os.path.join(TOP, name), "wb") as out:
-            out.write(data)
-
-
 if __name__ == "__main__":
-    main()
+    stored.write(files())

@@ -3,11 +3,11 @@
 
   vectors.py     writes stdin and stdout of crates float_vectors and power_vectors
 """
-import os
 import random
 import struct
 
 import exact
+import stored
 from exact import INFINITY, NAN, ONE, SIGN
 from power_tables import table_a, table_b
 
@@ -137,12 +137,5 @@ def files():
     }
 
 
-def main():
-    top = os.path.dirname(os.path.dirname(os.path.abspath(__file__)))
-    for name, data in files().items():
-        with open(os.path.join(top, name), "wb") as out:
-            out.write(data)
-
-
 if __name__ == "__main__":
-    main()
+    stored.write(files())
