@@ -6,6 +6,7 @@ mod records;
 pub use codes::LinkKind;
 pub use codes::NodeKind;
 pub use codes::Status;
+pub use codes::link_kind;
 pub use codes::status_code;
 pub use codes::status_of;
 pub use offsets::LK_SIZE;

@@ -1,0 +1,10 @@
+pub mod Arithmetic
+pub mod Constants
+pub mod Units
+pub mod Link
+pub mod Pipe
+pub mod Valve
+pub mod Status
+pub mod Rules
+pub mod Damping
+pub mod Bench
