@@ -1,1 +1,4 @@
+pub mod Columns
+pub mod Excess
 pub mod Numbering
+pub mod Scatter

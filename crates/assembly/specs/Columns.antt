@@ -1,0 +1,17 @@
+-- Sums kept in a column of floats, at binary64. Definitions only.
+use Prim.Native.Nat.{ℕ, zero, suc}
+use mathlib.Core.List.{List}
+use lib.ListN.{getD, set}
+use lib.Ieee.{Float, nan, binary64, ofBits, add, sub}
+
+-- the first i entries +0.0
+unfoldable pub cleared : ℕ → List Float → List Float
+cleared zero e = e
+cleared (suc i) e = set (cleared i e) i (ofBits binary64 0)
+
+-- x added to entry i, and taken from it
+unfoldable pub addTo : List Float → ℕ → Float → List Float
+addTo e i x = set e i (add binary64 (getD e i nan) x)
+
+unfoldable pub takeFrom : List Float → ℕ → Float → List Float
+takeFrom e i x = set e i (sub binary64 (getD e i nan) x)
