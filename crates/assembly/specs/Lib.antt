@@ -1,3 +1,4 @@
+pub mod Assembly
 pub mod Columns
 pub mod Excess
 pub mod Numbering

@@ -1,9 +1,11 @@
-// Document 01, item 6: the numbering of the unknowns, and the excess flows.
+// Document 01, item 6: the numbering of the unknowns, the excess flows and the assembly.
+mod building;
 mod columns;
 mod excess;
 mod numbering;
 mod scatter;
 
+pub use building::assemble;
 pub use excess::excess_flows;
 pub use numbering::NodeIndex;
 pub use numbering::Row;

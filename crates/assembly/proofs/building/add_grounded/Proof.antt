@@ -1,0 +1,79 @@
+-- `assembly::building::add_grounded` meets its contract. Assumes nothing.
+use Rattle.assembly.proofs.Built.{row-below, grounded-none, grounded-next}
+use Rattle.assembly.specs.Assembly.{groundedOf}
+use native.Mathlib.Omega.{arith}
+use Prim.Native.Nat.{ℕ, _-_, _≤_}
+use mathlib.Core.Path.{_≡_, refl, ap, _∙_}
+use lib.ListN.{length}
+use Rattle.assembly.proofs.building.add_grounded.Statement.{statement}
+use Rattle.assembly.proofs.building.add_grounded.Tie as tie
+use Rattle.assembly.proofs.building.add_grounded.Reads as reads
+use Rattle.assembly.proofs.building.add_grounded.Lts as lts
+use Rattle.assembly.proofs.building.ground.Reads as ground-reads
+use Rattle.assembly.proofs.numbering.unknown_of.Reads as unknown-of-reads
+
+abbrev Inv-loop : tie.InvT-loop
+Inv-loop sheet nodes grounded unknowns matrix₀ i₀ matrix i = (i ≤ nodes) × (matrix ≡ groundedOf sheet grounded i matrix₀) × (length matrix ≡ length matrix₀)
+
+abbrev μ-loop : tie.MeasureT-loop
+μ-loop sheet nodes grounded unknowns matrix₀ i₀ matrix i = nodes - i
+
+loop-holds : tie.Need-loop-holds Inv-loop μ-loop
+loop-holds c = (omega arith, grounded-none _ _ _, refl)
+
+unknown-of-requires : tie.Need-unknown-of-requires Inv-loop μ-loop
+unknown-of-requires c κs = omega arith
+
+shared-slice-read-ground : tie.Need-shared-slice-read-ground Inv-loop μ-loop
+shared-slice-read-ground c = omega arith
+
+ground-requires : tie.Need-ground-requires Inv-loop μ-loop
+ground-requires c κs =
+    let u = c .before .before in
+    let t = u .before in
+    let l = t .before in
+    let s = l .before .before .before .before .before in
+    let row = u .unknown-of .ensures ∙ s .pre .1 .right (l .loop .i) (t .loop-test .taken) in
+    (omega (arith, s .pre .0, l .loop .inv .2), row-below _ _ _ _ row (t .loop-test .taken) (s .pre .0 .0))
+
+add-i : tie.Need-add-i Inv-loop μ-loop
+add-i c = omega arith
+
+loop-less : tie.Need-loop-less Inv-loop μ-loop
+loop-less c = omega arith
+
+loop-again : tie.Need-loop-again Inv-loop μ-loop
+loop-again c =
+    let k = c .before .before in
+    let u = k .before .before .before in
+    let t = u .before in
+    let l = t .before in
+    let s = l .before .before .before .before .before in
+    let row = u .unknown-of .ensures ∙ s .pre .1 .right (l .loop .i) (t .loop-test .taken) in
+    (omega (arith, t .loop-test .taken), grounded-next _ _ _ _ _ _ _ row (l .loop .inv .1) (k .ground .ensures), omega (arith, k .ground .kept, l .loop .inv .2))
+
+same-length : tie.Need-same-length Inv-loop μ-loop
+same-length c = c .before .loop .inv .2
+
+returns : tie.Need-returns Inv-loop μ-loop
+returns c =
+    let l = c .before in
+    let a = l .before .before .before .before .before .args in
+    let e : l .loop .i ≡ a .nodes = omega (arith, l .loop .inv .0, c .loop-test .left) in
+    l .loop .inv .1 ∙ ap (λ (k : ℕ). groundedOf (a .sheet .now) (a .grounded .now) k (a .matrix .now)) e
+
+pub add-grounded-spec : {M : Type 1} → statement M
+add-grounded-spec =
+    tie.close
+    (tie.spec
+    Inv-loop
+    μ-loop
+    loop-holds
+    unknown-of-requires
+    shared-slice-read-ground
+    ground-requires
+    add-i
+    loop-less
+    loop-again
+    same-length
+    returns)

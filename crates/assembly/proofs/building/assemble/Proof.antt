@@ -1,0 +1,94 @@
+-- `assembly::building::assemble` meets its contract. Assumes nothing.
+use Rattle.assembly.proofs.Built.{assembled}
+use Rattle.assembly.specs.Assembly.{columns}
+use borrow.Author.Needs.{needs}
+use native.Mathlib.Omega.{arith}
+use Rattle.assembly.proofs.building.assemble.Statement.{statement}
+use Rattle.assembly.proofs.building.assemble.Tie as tie
+use Rattle.assembly.proofs.building.assemble.Reads as reads
+use Rattle.assembly.proofs.building.assemble.Lts as lts
+use Rattle.assembly.proofs.building.add_grounded.Reads as add-grounded-reads
+use Rattle.assembly.proofs.building.add_links.Reads as add-links-reads
+use Rattle.assembly.proofs.building.take_demands.Reads as take-demands-reads
+use Rattle.assembly.proofs.columns.clear.Reads as clear-reads
+
+clear-requires : tie.Need-clear-requires
+clear-requires c κs = search needs
+
+clear-requires-2 : tie.Need-clear-requires-2
+clear-requires-2 c κs = search needs
+
+add-links-requires : tie.Need-add-links-requires
+add-links-requires c κs =
+    let m2 = c .before .before .before .before .before .before in
+    let m1 = m2 .before .before .before .before in
+    let s = m1 .before .before .before .before .before .before .before .before .before .before .before .before .before .before in
+    let z = s .pre .1 .0 in (
+      s .pre .0,
+      (
+        record {
+          matrix = omega (arith, z .matrix, m1 .clear .kept);
+          rhs = omega (arith, z .rhs, m2 .clear2 .kept);
+          g = z .g;
+          y = z .y;
+        },
+        s .pre .1 .1 .1,
+      ),
+    )
+
+take-demands-requires : tie.Need-take-demands-requires
+take-demands-requires c κs =
+    let k = c .before .before .before .before .before .before .before .before .before in
+    let m2 = k .before .before .before .before .before .before .before in
+    let m1 = m2 .before .before .before .before in
+    let s = m1 .before .before .before .before .before .before .before .before .before .before .before .before .before .before in
+    let given = s .pre .0 in
+    ((given .few, (s .pre .1 .1 .0 .0, (given .numbers, omega (arith, s .pre .1 .0 .rhs, m2 .clear2 .kept, k .add-links .kept)))), given .rows)
+
+add-grounded-requires : tie.Need-add-grounded-requires
+add-grounded-requires c κs =
+    let d = c .before .before .before in
+    let k = d .before .before .before .before .before .before .before .before .before .before in
+    let m2 = k .before .before .before .before .before .before .before in
+    let m1 = m2 .before .before .before .before in
+    let s = m1 .before .before .before .before .before .before .before .before .before .before .before .before .before .before in
+    let given = s .pre .0 in
+    ((given .few, (s .pre .1 .1 .0 .1, (given .numbers, omega (arith, s .pre .1 .0 .matrix, m1 .clear .kept, k .add-links .kept)))), given .rows)
+
+same-length : tie.Need-same-length
+same-length c = search needs
+
+same-length-2 : tie.Need-same-length-2
+same-length-2 c = search needs
+
+same-length-3 : tie.Need-same-length-3
+same-length-3 c = search needs
+
+same-length-4 : tie.Need-same-length-4
+same-length-4 c = search needs
+
+returns : tie.Need-returns
+returns c =
+    let e = c .before .before in
+    let d = e .before .before .before .before in
+    let k = d .before .before .before .before .before .before .before .before .before .before in
+    let m2 = k .before .before .before .before .before .before .before in
+    let m1 = m2 .before .before .before .before in
+    let s = m1 .before .before .before .before .before .before .before .before .before .before .before .before .before .before in
+    let a = s .args in
+    assembled (a .sheet .now) (a .nodes) (a .links) (columns (a .heads .now) (a .flows .now) (a .statuses .now) (a .excess .now)) (a .demands .now) (a .grounded .now) _ _ _ _ _ _ _ _ _ _ _ _ (m1 .clear .ensures) (m2 .clear2 .ensures) (k .add-links .ensures) (d .take-demands .ensures) (e .add-grounded .ensures)
+
+pub assemble-spec : {M : Type 1} → statement M
+assemble-spec =
+    tie.close
+    (tie.spec
+    clear-requires
+    clear-requires-2
+    add-links-requires
+    take-demands-requires
+    add-grounded-requires
+    same-length
+    same-length-2
+    same-length-3
+    same-length-4
+    returns)

@@ -1,0 +1,137 @@
+-- Document 01, item 6: the matrix and the right side: links in order, then node demands, then SMALL_VALUE on each grounded diagonal. Definitions only.
+use Prim.Native.Nat.{ℕ, zero, suc, _+_, _≤_, _<_}
+use mathlib.Core.Path.{_≡_}
+use mathlib.Core.Bool.{Bool, false, cond, not, _&&_}
+use mathlib.Core.List.{List}
+use lib.Dec.{eqb}
+use lib.ListN.{length, getD, set}
+use lib.Ieee.{Float, nan}
+use Rattle.float.specs.Bytes.{fromBytes}
+use Rattle.records.specs.Offsets.{nodeOffset, linkOffset}
+use Rattle.records.specs.Records.{byteAt, linkAt}
+use Rattle.records.specs.Codes.{statusOf}
+use Rattle.records.specs.declared.records.Link.{Link}
+use Rattle.sheet.specs.Ends.{EndsBelow, inService}
+use Rattle.model.specs.Constants.{smallValue}
+use Rattle.model.specs.Rules.{coefficientsOf}
+use Rattle.model.specs.declared.link.Coefficients.{Coefficients}
+use Rattle.assembly.specs.Columns.{cleared}
+use Rattle.assembly.specs.Numbering.{before, rowOf}
+use Rattle.assembly.specs.Scatter.{onDiagonal, offRow, linkMatrix, linkRow}
+use Rattle.assembly.specs.declared.numbering.Row.{Row}
+use Rattle.assembly.specs.declared.numbering.Row.the-variants.{Unknown, Fixed}
+
+-- the matrix, the right side, and the columns of the links' g and y
+pub record System : Type 0 where
+  pub matrix : List Float
+  pub rhs : List Float
+  pub g : List Float
+  pub y : List Float
+
+abbrev pub system : List Float → List Float → List Float → List Float → System
+system m r g y = record { matrix = m; rhs = r; g = g; y = y }
+
+-- the row of node i: a junction in service is the unknown of its number
+unfoldable pub rowAt : List ℕ → ℕ → Row
+unfolding before
+rowAt s i = cond (inService s i) (Unknown (record { 0 = before s i })) Fixed
+
+-- a column of numbers says the row of each of n nodes
+pub record RowsRight (n : ℕ) (s unknowns : List ℕ) : Type 0 where
+  pub right : (i : ℕ) → i < n → rowOf unknowns i ≡ rowAt s i
+
+-- node i is not disabled, and is no junction
+unfoldable pub enabled : List ℕ → ℕ → Bool
+enabled s i = eqb (byteAt s (nodeOffset i + 3)) 0
+
+unfoldable pub fixedNode : List ℕ → ℕ → Bool
+fixedNode s i = not (eqb (byteAt s (nodeOffset i + 2)) 0)
+
+unfoldable pub elevationOf : List ℕ → ℕ → Float
+elevationOf s i = fromBytes s (nodeOffset i + 4)
+
+-- what a link is read with: the columns of the heads, the flows, the status codes and the excess flows
+pub record Columns : Type 0 where
+  pub heads : List Float
+  pub flows : List Float
+  pub statuses : List ℕ
+  pub excess : List Float
+
+abbrev pub columns : List Float → List Float → List ℕ → List Float → Columns
+columns h q t e = record { heads = h; flows = q; statuses = t; excess = e }
+
+-- what assembling k links behind n nodes asks of a sheet, of a column of numbers and of the columns
+pub record Given (n k : ℕ) (s unknowns : List ℕ) (c : Columns) : Type 0 where
+  pub sheet : linkOffset n k ≤ length s
+  pub few : n ≤ 64
+  pub numbers : n ≤ length unknowns
+  pub heads : n ≤ length (c .heads)
+  pub excess : n ≤ length (c .excess)
+  pub flows : k ≤ length (c .flows)
+  pub statuses : k ≤ length (c .statuses)
+  pub ends : EndsBelow n k s
+  pub rows : RowsRight n s unknowns
+
+-- and of the room that is lent for a system
+pub record Sized (k : ℕ) (t : System) : Type 0 where
+  pub matrix : length (t .matrix) ≡ 4096
+  pub rhs : 64 ≤ length (t .rhs)
+  pub g : k ≤ length (t .g)
+  pub y : k ≤ length (t .y)
+
+-- the coefficients of link i, which is l, by the columns of the flows, the status codes and the excess flows
+unfoldable pub coefficientsAt : List ℕ → List Float → List ℕ → List Float → Link → ℕ → Coefficients
+unfolding elevationOf
+coefficientsAt s flows statuses excess l i =
+    coefficientsOf l (statusOf (getD statuses i 0)) (getD flows i nan)
+    (getD excess (l .start) nan) (getD excess (l .end) nan)
+    (elevationOf s (l .start)) (elevationOf s (l .end))
+
+-- link i, which is l and has the coefficients k, in service
+unfoldable pub linkIn : List ℕ → Columns → Link → Coefficients → ℕ → System → System
+unfolding rowAt fixedNode linkMatrix linkRow
+linkIn s c l k i t =
+    record {
+      matrix = linkMatrix (rowAt s (l .start)) (rowAt s (l .end)) k (t .matrix);
+      rhs =
+          linkRow (rowAt s (l .start)) (rowAt s (l .end)) k (getD (c .flows) i nan)
+          (fixedNode s (l .start)) (fixedNode s (l .end))
+          (getD (c .heads) (l .start) nan) (getD (c .heads) (l .end) nan) (t .rhs);
+      g = set (t .g) i (k .conductance);
+      y = set (t .y) i (k .offset);
+    }
+
+-- a link with a disabled node at an end changes nothing
+unfoldable pub linkOf : List ℕ → Columns → Link → ℕ → System → System
+unfolding enabled coefficientsAt linkIn
+linkOf s c l i t = cond (enabled s (l .start) && enabled s (l .end)) (linkIn s c l (coefficientsAt s (c .flows) (c .statuses) (c .excess) l i) i t) t
+
+-- the first i links behind n nodes, in order
+unfoldable pub linksOf : List ℕ → ℕ → Columns → ℕ → System → System
+unfolding linkOf
+linksOf s n c zero t = t
+linksOf s n c (suc i) t = linkOf s c (linkAt s (linkOffset n i)) i (linksOf s n c i t)
+
+-- the demands of the first i nodes, each taken from its row where it has one
+unfoldable pub demandsOf : List ℕ → List Float → ℕ → List Float → List Float
+unfolding rowAt offRow
+demandsOf s d zero r = r
+demandsOf s d (suc i) r = offRow (rowAt s i) (getD d i nan) (demandsOf s d i r)
+
+-- SMALL_VALUE on the diagonal of a node that is grounded
+unfoldable pub groundOf : Bool → Row → List Float → List Float
+unfolding onDiagonal
+groundOf marked row m = cond marked (onDiagonal row smallValue m) m
+
+-- and of the first i nodes
+unfoldable pub groundedOf : List ℕ → List Bool → ℕ → List Float → List Float
+unfolding rowAt groundOf
+groundedOf s marks zero m = m
+groundedOf s marks (suc i) m = groundOf (getD marks i false) (rowAt s i) (groundedOf s marks i m)
+
+-- the whole, of n nodes and k links, from +0.0 throughout
+unfoldable pub assembleOf : List ℕ → ℕ → ℕ → Columns → List Float → List Bool → System → System
+unfolding linksOf demandsOf groundedOf cleared
+assembleOf s n k c demands marks t =
+    let links = linksOf s n c k (system (cleared 4096 (t .matrix)) (cleared 64 (t .rhs)) (t .g) (t .y)) in
+    system (groundedOf s marks n (links .matrix)) (demandsOf s demands n (links .rhs)) (links .g) (links .y)

@@ -1,0 +1,307 @@
+// The matrix and the right side: links in order, then node demands, then the grounded diagonals.
+ghost use mathlib.Core.Path.{_≡_};
+ghost use Prim.Native.Nat.{_<_, _≤_, _+_};
+ghost use lib.ListN.{length};
+ghost use Rattle.power.specs.Tables.{tableA, tableB};
+ghost use Rattle.records.specs.Offsets.{nodeOffset, linkOffset};
+ghost use Rattle.records.specs.Records.{linkAt};
+ghost use Rattle.assembly.specs.Scatter.{RowBelow};
+ghost use Rattle.assembly.specs.Assembly.{system, Given, Sized, RowsRight, enabled, fixedNode, elevationOf, columns, coefficientsAt, linkIn, linkOf, linksOf, demandsOf, groundOf, groundedOf, assembleOf};
+use crate::columns::clear;
+use crate::numbering::NodeIndex;
+use crate::numbering::Row;
+use crate::numbering::unknown_of;
+use crate::scatter::add_to_diagonal;
+use crate::scatter::link_into_matrix;
+use crate::scatter::link_into_row;
+use crate::scatter::take_from_row;
+use float::from_bytes;
+use model::Coefficients;
+use records::Link;
+use records::link_at;
+use records::link_offset;
+use records::node_offset;
+use records::status_of;
+
+// constants.rs.
+const SMALL_VALUE: f64 = 1e-6;
+
+fn is_enabled(sheet: &[u8], i: usize) -> bool
+    requires { ⌜ nodeOffset (i + 1) ≤ length (now sheet) ⌝ }
+    ensures { λ r. ⌜ r ≡ enabled (now (sheet .entry)) i ⌝ }
+{
+    sheet[node_offset(i) + 3] == 0
+}
+
+// Whether a node is no junction, so that its head is given.
+fn is_fixed(sheet: &[u8], i: usize) -> bool
+    requires { ⌜ nodeOffset (i + 1) ≤ length (now sheet) ⌝ }
+    ensures { λ r. ⌜ r ≡ fixedNode (now (sheet .entry)) i ⌝ }
+{
+    sheet[node_offset(i) + 2] != 0
+}
+
+fn elevation(sheet: &[u8], i: usize) -> f64
+    requires { ⌜ nodeOffset (i + 1) ≤ length (now sheet) ⌝ }
+    ensures { λ r. ⌜ r ≡ elevationOf (now (sheet .entry)) i ⌝ }
+{
+    from_bytes(sheet, node_offset(i) + 4)
+}
+
+// The coefficients of a link at its flow and status.
+fn coefficients_at(
+    sheet: &[u8],
+    nodes: usize,
+    link: Link,
+    i: usize,
+    flows: &[f64],
+    statuses: &[u8],
+    excess: &[f64],
+    a: &[u64; 1025],
+    b: &[u64; 128],
+) -> Coefficients
+    requires { ⌜ (nodeOffset nodes ≤ length (now sheet)) × ((nodes ≤ length (now excess)) × ((i < length (now flows)) × (i < length (now statuses)))) ⌝ }
+    requires { ⌜ (link .start < nodes) × (link .end < nodes) ⌝ }
+    requires { ⌜ (now a ≡ tableA) × (now b ≡ tableB) ⌝ }
+    ensures { λ r. ⌜ r ≡ coefficientsAt (now (sheet .entry)) (now (flows .entry)) (now (statuses .entry)) (now (excess .entry)) link i ⌝ }
+{
+    let start = link.start;
+    let end = link.end;
+    let up = elevation(sheet, start);
+    let down = elevation(sheet, end);
+    let status = status_of(statuses[i]);
+    model::coefficients(
+        link,
+        status,
+        flows[i],
+        excess[start],
+        excess[end],
+        up,
+        down,
+        a,
+        b,
+    )
+}
+
+// A link in service, with its coefficients.
+fn place_link(
+    sheet: &[u8],
+    nodes: usize,
+    link: Link,
+    c: Coefficients,
+    i: usize,
+    heads: &[f64],
+    flows: &[f64],
+    statuses: &[u8],
+    excess: &[f64],
+    unknowns: &[usize],
+    matrix: &mut [f64],
+    rhs: &mut [f64],
+    g: &mut [f64],
+    y: &mut [f64],
+)
+    requires { ⌜ Given nodes (i + 1) (now sheet) (now unknowns) (columns (now heads) (now flows) (now statuses) (now excess)) ⌝ }
+    requires { ⌜ Sized (i + 1) (system (now matrix) (now rhs) (now g) (now y)) ⌝ }
+    requires { ⌜ (link .start < nodes) × (link .end < nodes) ⌝ }
+    ensures { λ _. ⌜ system (now (matrix .exit)) (now (rhs .exit)) (now (g .exit)) (now (y .exit)) ≡ linkIn (now (sheet .entry)) (columns (now (heads .entry)) (now (flows .entry)) (now (statuses .entry)) (now (excess .entry))) link c i (system (now (matrix .entry)) (now (rhs .entry)) (now (g .entry)) (now (y .entry))) ⌝ }
+{
+    let start = link.start;
+    let end = link.end;
+    let u = unknown_of(unknowns, NodeIndex(start));
+    let v = unknown_of(unknowns, NodeIndex(end));
+    let fixed_start = is_fixed(sheet, start);
+    let fixed_end = is_fixed(sheet, end);
+    let q = flows[i];
+    let head_start = heads[start];
+    let head_end = heads[end];
+    g[i] = c.conductance;
+    y[i] = c.offset;
+    link_into_matrix(u, v, c, matrix);
+    link_into_row(
+        u,
+        v,
+        c,
+        q,
+        fixed_start,
+        fixed_end,
+        head_start,
+        head_end,
+        rhs,
+    );
+}
+
+// One link, which changes nothing where a node at an end is disabled.
+fn add_link(
+    sheet: &[u8],
+    nodes: usize,
+    i: usize,
+    heads: &[f64],
+    flows: &[f64],
+    statuses: &[u8],
+    excess: &[f64],
+    unknowns: &[usize],
+    a: &[u64; 1025],
+    b: &[u64; 128],
+    matrix: &mut [f64],
+    rhs: &mut [f64],
+    g: &mut [f64],
+    y: &mut [f64],
+)
+    requires { ⌜ Given nodes (i + 1) (now sheet) (now unknowns) (columns (now heads) (now flows) (now statuses) (now excess)) ⌝ }
+    requires { ⌜ Sized (i + 1) (system (now matrix) (now rhs) (now g) (now y)) ⌝ }
+    requires { ⌜ (now a ≡ tableA) × (now b ≡ tableB) ⌝ }
+    ensures { λ _. ⌜ system (now (matrix .exit)) (now (rhs .exit)) (now (g .exit)) (now (y .exit)) ≡ linkOf (now (sheet .entry)) (columns (now (heads .entry)) (now (flows .entry)) (now (statuses .entry)) (now (excess .entry))) (linkAt (now (sheet .entry)) (linkOffset nodes i)) i (system (now (matrix .entry)) (now (rhs .entry)) (now (g .entry)) (now (y .entry))) ⌝ }
+{
+    let link = link_at(sheet, link_offset(nodes, i));
+    let start = link.start;
+    let end = link.end;
+    if is_enabled(sheet, start) & is_enabled(sheet, end) {
+        let c = coefficients_at(sheet, nodes, link, i, flows, statuses, excess, a, b);
+        place_link(
+            sheet,
+            nodes,
+            link,
+            c,
+            i,
+            heads,
+            flows,
+            statuses,
+            excess,
+            unknowns,
+            matrix,
+            rhs,
+            g,
+            y,
+        );
+    }
+}
+
+// All links in order.
+fn add_links(
+    sheet: &[u8],
+    nodes: usize,
+    links: usize,
+    heads: &[f64],
+    flows: &[f64],
+    statuses: &[u8],
+    excess: &[f64],
+    unknowns: &[usize],
+    a: &[u64; 1025],
+    b: &[u64; 128],
+    matrix: &mut [f64],
+    rhs: &mut [f64],
+    g: &mut [f64],
+    y: &mut [f64],
+)
+    requires { ⌜ Given nodes links (now sheet) (now unknowns) (columns (now heads) (now flows) (now statuses) (now excess)) ⌝ }
+    requires { ⌜ Sized links (system (now matrix) (now rhs) (now g) (now y)) ⌝ }
+    requires { ⌜ (now a ≡ tableA) × (now b ≡ tableB) ⌝ }
+    ensures { λ _. ⌜ system (now (matrix .exit)) (now (rhs .exit)) (now (g .exit)) (now (y .exit)) ≡ linksOf (now (sheet .entry)) nodes (columns (now (heads .entry)) (now (flows .entry)) (now (statuses .entry)) (now (excess .entry))) links (system (now (matrix .entry)) (now (rhs .entry)) (now (g .entry)) (now (y .entry))) ⌝ }
+{
+    for i in 0..links {
+        add_link(
+            sheet,
+            nodes,
+            i,
+            heads,
+            flows,
+            statuses,
+            excess,
+            unknowns,
+            a,
+            b,
+            matrix,
+            rhs,
+            g,
+            y,
+        );
+    }
+}
+
+// Takes each junction's demand from its row.
+fn take_demands(sheet: &[u8], nodes: usize, demands: &[f64], unknowns: &[usize], rhs: &mut [f64])
+    requires { ⌜ (nodes ≤ 64) × ((nodes ≤ length (now demands)) × ((nodes ≤ length (now unknowns)) × (64 ≤ length (now rhs)))) ⌝ }
+    requires { ⌜ RowsRight nodes (now sheet) (now unknowns) ⌝ }
+    ensures { λ _. ⌜ now (rhs .exit) ≡ demandsOf (now (sheet .entry)) (now (demands .entry)) nodes (now (rhs .entry)) ⌝ }
+{
+    for i in 0..nodes {
+        let row = unknown_of(unknowns, NodeIndex(i));
+        take_from_row(row, demands[i], rhs);
+    }
+}
+
+// Adds SMALL_VALUE on the diagonal of a grounded node.
+fn ground(grounded: bool, row: Row, matrix: &mut [f64])
+    requires { ⌜ length (now matrix) ≡ 4096 ⌝ }
+    requires { ⌜ RowBelow 64 row ⌝ }
+    ensures { λ _. ⌜ now (matrix .exit) ≡ groundOf grounded row (now (matrix .entry)) ⌝ }
+{
+    if grounded {
+        add_to_diagonal(row, SMALL_VALUE, matrix);
+    }
+}
+
+fn add_grounded(
+    sheet: &[u8],
+    nodes: usize,
+    grounded: &[bool],
+    unknowns: &[usize],
+    matrix: &mut [f64],
+)
+    requires { ⌜ (nodes ≤ 64) × ((nodes ≤ length (now grounded)) × ((nodes ≤ length (now unknowns)) × (length (now matrix) ≡ 4096))) ⌝ }
+    requires { ⌜ RowsRight nodes (now sheet) (now unknowns) ⌝ }
+    ensures { λ _. ⌜ now (matrix .exit) ≡ groundedOf (now (sheet .entry)) (now (grounded .entry)) nodes (now (matrix .entry)) ⌝ }
+{
+    for i in 0..nodes {
+        let row = unknown_of(unknowns, NodeIndex(i));
+        ground(grounded[i], row, matrix);
+    }
+}
+
+// Fills the matrix and the right side, whatever they held, and the links' g and y. The columns of
+// links that are not in service keep what they held.
+pub fn assemble(
+    sheet: &[u8],
+    nodes: usize,
+    links: usize,
+    heads: &[f64],
+    demands: &[f64],
+    flows: &[f64],
+    statuses: &[u8],
+    grounded: &[bool],
+    excess: &[f64],
+    unknowns: &[usize],
+    a: &[u64; 1025],
+    b: &[u64; 128],
+    matrix: &mut [f64],
+    rhs: &mut [f64],
+    g: &mut [f64],
+    y: &mut [f64],
+)
+    requires { ⌜ Given nodes links (now sheet) (now unknowns) (columns (now heads) (now flows) (now statuses) (now excess)) ⌝ }
+    requires { ⌜ Sized links (system (now matrix) (now rhs) (now g) (now y)) ⌝ }
+    requires { ⌜ (nodes ≤ length (now demands)) × (nodes ≤ length (now grounded)) ⌝ }
+    requires { ⌜ (now a ≡ tableA) × (now b ≡ tableB) ⌝ }
+    ensures { λ _. ⌜ system (now (matrix .exit)) (now (rhs .exit)) (now (g .exit)) (now (y .exit)) ≡ assembleOf (now (sheet .entry)) nodes links (columns (now (heads .entry)) (now (flows .entry)) (now (statuses .entry)) (now (excess .entry))) (now (demands .entry)) (now (grounded .entry)) (system (now (matrix .entry)) (now (rhs .entry)) (now (g .entry)) (now (y .entry))) ⌝ }
+{
+    clear(4096, matrix);
+    clear(64, rhs);
+    add_links(
+        sheet,
+        nodes,
+        links,
+        heads,
+        flows,
+        statuses,
+        excess,
+        unknowns,
+        a,
+        b,
+        matrix,
+        rhs,
+        g,
+        y,
+    );
+    take_demands(sheet, nodes, demands, unknowns, rhs);
+    add_grounded(sheet, nodes, grounded, unknowns, matrix);
+}
