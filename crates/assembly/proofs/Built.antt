@@ -18,48 +18,17 @@ use Rattle.sheet.specs.Ends.{EndsBelow, inService}
 use Rattle.model.specs.Constants.{smallValue}
 use Rattle.model.specs.Rules.{coefficientsOf}
 use Rattle.model.specs.declared.link.Coefficients.{Coefficients}
-use Rattle.assembly.specs.Columns.{cleared}
-use Rattle.assembly.specs.Numbering.{before}
-use Rattle.assembly.specs.Scatter.{RowBelow, onDiagonal, offRow, linkMatrix, linkRow}
-use Rattle.assembly.specs.Assembly.{System, system, Given, Sized, Columns, rowAt, enabled, fixedNode, elevationOf, coefficientsAt, linkIn, linkOf, linksOf, demandsOf, groundOf, groundedOf, assembleOf}
-use Rattle.assembly.proofs.Numbers.{at-most}
-use Rattle.assembly.specs.declared.numbering.Row.{Row}
-use Rattle.assembly.specs.declared.numbering.Row.the-variants.{Unknown, Fixed}
-
--- ---- what is read of a node
-
-module _ (s : List ℕ) (i at : ℕ) (here : at ≡ nodeOffset i) where
-  pub enabled-of : eqb (getD s (at + 3) 0) 0 ≡ enabled s i
-  unfolding enabled
-  enabled-of = rw here
-
-  pub fixed-of : not (eqb (getD s (at + 2) 0) 0) ≡ fixedNode s i
-  unfolding fixedNode
-  fixed-of = rw here
-
-  pub elevation-of : (x : Float) → x ≡ fromBytes s (at + 4) → x ≡ elevationOf s i
-  unfolding elevationOf
-  elevation-of x h = rw (h, here)
-
--- ---- a row is below the number of its node
-
-abbrev numberOf : Row → ℕ
-numberOf (Unknown u) = u .0
-numberOf Fixed = 0
-
-number-most : (s : List ℕ) (i : ℕ) → numberOf (rowAt s i) ≤ i
-unfolding rowAt
-number-most s i = go (inService s i)
-  where
-    go : (b : Bool) → numberOf (cond b (Unknown (record { 0 = before s i })) Fixed) ≤ i
-    go true = at-most s i
-    go false = omega arith
+use Rattle.columns.specs.Columns.{cleared}
+use Rattle.nodes.specs.Fields.{enabled, fixedNode, elevationOf}
+use Rattle.nodes.specs.Numbering.{rowAt}
+use Rattle.scatter.specs.Scatter.{RowBelow, onDiagonal, offRow, linkMatrix, linkRow}
+use Rattle.assembly.specs.Assembly.{System, system, Given, Sized, Columns, coefficientsAt, linkIn, linkOf, linksOf, demandsOf, groundOf, groundedOf, assembleOf}
+use Rattle.nodes.proofs.Rows.{row-most}
+use Rattle.nodes.specs.declared.numbering.Row.{Row}
+use Rattle.nodes.specs.declared.numbering.Row.the-variants.{Unknown, Fixed}
 
 pub row-below : (s : List ℕ) (i n : ℕ) (row : Row) → row ≡ rowAt s i → i < n → n ≤ 64 → RowBelow 64 row
-row-below s i n row h l f =
-    record {
-      below = λ w k. let e : numberOf (rowAt s i) ≡ w .0 = ap numberOf (sym h ∙ k) in omega (arith, number-most s i, e);
-    }
+row-below s i n row h l f = record { below = λ w k. let e : w .0 ≤ i = row-most s i w (sym h ∙ k) in omega (arith, e) }
 
 -- ---- one link
 

@@ -9,33 +9,10 @@ use native.Mathlib.Omega.{arith}
 use lib.ListN.{length, getD, set}
 use lib.Seq.{getD-set-same, getD-set-other}
 use lib.Ieee.{Float, nan, binary64, ofBits}
-use Rattle.assembly.specs.Columns.{cleared}
+use Rattle.columns.specs.Columns.{cleared}
 use Rattle.assembly.specs.Assembly.{System, system, Columns, linksOf, demandsOf, groundedOf, assembleOf}
 use Rattle.assembly.proofs.Built.{assembled}
-use Rattle.assembly.proofs.Kept.{cleared-long}
-
-same-entries : (a b : List Float) → length a ≡ length b → ((j : ℕ) → j < length a → getD a j nan ≡ getD b j nan) → a ≡ b
-same-entries [] [] h f = refl
-same-entries [] (y ∷ b) h f = absurd (omega arith)
-same-entries (x ∷ a) [] h f = absurd (omega arith)
-same-entries (x ∷ a) (y ∷ b) h f =
-    let e : x ≡ y = f 0 (omega arith) in
-    let r : a ≡ b = same-entries a b (omega arith) (λ j l. f (suc j) (omega arith)) in
-    rw (e, r)
-
-pub cleared-at : (n : ℕ) (e : List Float) → n ≤ length e → (j : ℕ) → j < n → getD (cleared n e) j nan ≡ ofBits binary64 0
-unfolding cleared
-cleared-at zero e h j l = absurd (omega arith)
-cleared-at (suc n) e h j l =
-    ⊎-elim
-    (λ (q : j ≡ n). ap (λ (k : ℕ). getD (set (cleared n e) n (ofBits binary64 0)) k nan) q ∙ getD-set-same (cleared n e) n (ofBits binary64 0) nan (omega (arith, cleared-long n e)))
-    (λ (q : j < n). getD-set-other (cleared n e) n j (ofBits binary64 0) nan (λ z. omega arith) ∙ cleared-at n e (omega arith) j q)
-    (eq-or-lt-of-le (le-of-suc-le-suc l))
-
-pub cleared-same : (n : ℕ) (a b : List Float) → length a ≡ n → length b ≡ n → cleared n a ≡ cleared n b
-cleared-same n a b h k =
-    same-entries (cleared n a) (cleared n b) (omega (arith, cleared-long n a, cleared-long n b))
-    (λ j l. let m : j < n = omega (arith, cleared-long n a) in cleared-at n a (omega arith) j m ∙ sym (cleared-at n b (omega arith) j m))
+use Rattle.columns.proofs.Laws.{cleared-same}
 
 pub fresh : (s : List ℕ) (n k : ℕ) (c : Columns) (demands : List Float) (marks : List Bool) (m m₁ r r₁ g y : List Float)
     → length m ≡ 4096 → length m₁ ≡ 4096 → length r ≡ 64 → length r₁ ≡ 64

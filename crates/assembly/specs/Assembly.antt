@@ -1,25 +1,23 @@
 -- Document 01, item 6: the matrix and the right side: links in order, then node demands, then SMALL_VALUE on each grounded diagonal. Definitions only.
 use Prim.Native.Nat.{ℕ, zero, suc, _+_, _≤_, _<_}
 use mathlib.Core.Path.{_≡_}
-use mathlib.Core.Bool.{Bool, false, cond, not, _&&_}
+use mathlib.Core.Bool.{Bool, false, cond, _&&_}
 use mathlib.Core.List.{List}
-use lib.Dec.{eqb}
 use lib.ListN.{length, getD, set}
 use lib.Ieee.{Float, nan}
-use Rattle.float.specs.Bytes.{fromBytes}
-use Rattle.records.specs.Offsets.{nodeOffset, linkOffset}
-use Rattle.records.specs.Records.{byteAt, linkAt}
+use Rattle.records.specs.Offsets.{linkOffset}
+use Rattle.records.specs.Records.{linkAt}
 use Rattle.records.specs.Codes.{statusOf}
 use Rattle.records.specs.declared.records.Link.{Link}
-use Rattle.sheet.specs.Ends.{EndsBelow, inService}
+use Rattle.sheet.specs.Ends.{EndsBelow}
 use Rattle.model.specs.Constants.{smallValue}
 use Rattle.model.specs.Rules.{coefficientsOf}
 use Rattle.model.specs.declared.link.Coefficients.{Coefficients}
-use Rattle.assembly.specs.Columns.{cleared}
-use Rattle.assembly.specs.Numbering.{before, rowOf}
-use Rattle.assembly.specs.Scatter.{onDiagonal, offRow, linkMatrix, linkRow}
-use Rattle.assembly.specs.declared.numbering.Row.{Row}
-use Rattle.assembly.specs.declared.numbering.Row.the-variants.{Unknown, Fixed}
+use Rattle.columns.specs.Columns.{cleared}
+use Rattle.nodes.specs.Fields.{enabled, fixedNode, elevationOf}
+use Rattle.nodes.specs.Numbering.{rowAt, RowsRight}
+use Rattle.scatter.specs.Scatter.{onDiagonal, offRow, linkMatrix, linkRow}
+use Rattle.nodes.specs.declared.numbering.Row.{Row}
 
 -- the matrix, the right side, and the columns of the links' g and y
 pub record System : Type 0 where
@@ -30,25 +28,6 @@ pub record System : Type 0 where
 
 abbrev pub system : List Float → List Float → List Float → List Float → System
 system m r g y = record { matrix = m; rhs = r; g = g; y = y }
-
--- the row of node i: a junction in service is the unknown of its number
-unfoldable pub rowAt : List ℕ → ℕ → Row
-unfolding before
-rowAt s i = cond (inService s i) (Unknown (record { 0 = before s i })) Fixed
-
--- a column of numbers says the row of each of n nodes
-pub record RowsRight (n : ℕ) (s unknowns : List ℕ) : Type 0 where
-  pub right : (i : ℕ) → i < n → rowOf unknowns i ≡ rowAt s i
-
--- node i is not disabled, and is no junction
-unfoldable pub enabled : List ℕ → ℕ → Bool
-enabled s i = eqb (byteAt s (nodeOffset i + 3)) 0
-
-unfoldable pub fixedNode : List ℕ → ℕ → Bool
-fixedNode s i = not (eqb (byteAt s (nodeOffset i + 2)) 0)
-
-unfoldable pub elevationOf : List ℕ → ℕ → Float
-elevationOf s i = fromBytes s (nodeOffset i + 4)
 
 -- what a link is read with: the columns of the heads, the flows, the status codes and the excess flows
 pub record Columns : Type 0 where

@@ -1,5 +1,2 @@
+-- The specs of `assembly`.
 pub mod Assembly
-pub mod Columns
-pub mod Excess
-pub mod Numbering
-pub mod Scatter

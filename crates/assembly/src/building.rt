@@ -5,48 +5,28 @@ ghost use lib.ListN.{length};
 ghost use Rattle.power.specs.Tables.{tableA, tableB};
 ghost use Rattle.records.specs.Offsets.{nodeOffset, linkOffset};
 ghost use Rattle.records.specs.Records.{linkAt};
-ghost use Rattle.assembly.specs.Scatter.{RowBelow};
-ghost use Rattle.assembly.specs.Assembly.{system, Given, Sized, RowsRight, enabled, fixedNode, elevationOf, columns, coefficientsAt, linkIn, linkOf, linksOf, demandsOf, groundOf, groundedOf, assembleOf};
-use crate::columns::clear;
-use crate::numbering::NodeIndex;
-use crate::numbering::Row;
-use crate::numbering::unknown_of;
-use crate::scatter::add_to_diagonal;
-use crate::scatter::link_into_matrix;
-use crate::scatter::link_into_row;
-use crate::scatter::take_from_row;
-use float::from_bytes;
+ghost use Rattle.scatter.specs.Scatter.{RowBelow};
+ghost use Rattle.nodes.specs.Numbering.{RowsRight};
+ghost use Rattle.assembly.specs.Assembly.{system, Given, Sized, columns, coefficientsAt, linkIn, linkOf, linksOf, demandsOf, groundOf, groundedOf, assembleOf};
+use columns::clear;
 use model::Coefficients;
+use nodes::NodeIndex;
+use nodes::Row;
+use nodes::elevation;
+use nodes::is_enabled;
+use nodes::is_fixed;
+use nodes::unknown_of;
 use records::Link;
 use records::link_at;
 use records::link_offset;
-use records::node_offset;
 use records::status_of;
+use scatter::add_to_diagonal;
+use scatter::link_into_matrix;
+use scatter::link_into_row;
+use scatter::take_from_row;
 
 // constants.rs.
 const SMALL_VALUE: f64 = 1e-6;
-
-fn is_enabled(sheet: &[u8], i: usize) -> bool
-    requires { ⌜ nodeOffset (i + 1) ≤ length (now sheet) ⌝ }
-    ensures { λ r. ⌜ r ≡ enabled (now (sheet .entry)) i ⌝ }
-{
-    sheet[node_offset(i) + 3] == 0
-}
-
-// Whether a node is no junction, so that its head is given.
-fn is_fixed(sheet: &[u8], i: usize) -> bool
-    requires { ⌜ nodeOffset (i + 1) ≤ length (now sheet) ⌝ }
-    ensures { λ r. ⌜ r ≡ fixedNode (now (sheet .entry)) i ⌝ }
-{
-    sheet[node_offset(i) + 2] != 0
-}
-
-fn elevation(sheet: &[u8], i: usize) -> f64
-    requires { ⌜ nodeOffset (i + 1) ≤ length (now sheet) ⌝ }
-    ensures { λ r. ⌜ r ≡ elevationOf (now (sheet .entry)) i ⌝ }
-{
-    from_bytes(sheet, node_offset(i) + 4)
-}
 
 // The coefficients of a link at its flow and status.
 fn coefficients_at(

@@ -10,7 +10,7 @@ use Rattle.assembly.proofs.building.add_grounded.Tie as tie
 use Rattle.assembly.proofs.building.add_grounded.Reads as reads
 use Rattle.assembly.proofs.building.add_grounded.Lts as lts
 use Rattle.assembly.proofs.building.ground.Reads as ground-reads
-use Rattle.assembly.proofs.numbering.unknown_of.Reads as unknown-of-reads
+use Rattle.nodes.proofs.unknown_of.Reads as unknown-of-reads
 
 abbrev Inv-loop : tie.InvT-loop
 Inv-loop sheet nodes grounded unknowns matrix₀ i₀ matrix i = (i ≤ nodes) × (matrix ≡ groundedOf sheet grounded i matrix₀) × (length matrix ≡ length matrix₀)

@@ -8,7 +8,7 @@ use Rattle.assembly.proofs.building.add_link.Tie as tie
 use Rattle.assembly.proofs.building.add_link.Reads as reads
 use Rattle.assembly.proofs.building.add_link.Lts as lts
 use Rattle.assembly.proofs.building.coefficients_at.Reads as coefficients-at-reads
-use Rattle.assembly.proofs.building.is_enabled.Reads as is-enabled-reads
+use Rattle.nodes.proofs.is_enabled.Reads as is-enabled-reads
 use Rattle.assembly.proofs.building.place_link.Reads as place-link-reads
 use Rattle.records.proofs.link_offset.Reads as link-offset-reads
 use Rattle.records.proofs.link_at.Reads as link-at-reads

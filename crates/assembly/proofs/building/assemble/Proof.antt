@@ -10,7 +10,7 @@ use Rattle.assembly.proofs.building.assemble.Lts as lts
 use Rattle.assembly.proofs.building.add_grounded.Reads as add-grounded-reads
 use Rattle.assembly.proofs.building.add_links.Reads as add-links-reads
 use Rattle.assembly.proofs.building.take_demands.Reads as take-demands-reads
-use Rattle.assembly.proofs.columns.clear.Reads as clear-reads
+use Rattle.columns.proofs.clear.Reads as clear-reads
 
 clear-requires : tie.Need-clear-requires
 clear-requires c κs = search needs

@@ -5,7 +5,7 @@ use Rattle.assembly.proofs.building.coefficients_at.Statement.{statemen
 use Rattle.assembly.proofs.building.coefficients_at.Tie as tie
 use Rattle.assembly.proofs.building.coefficients_at.Reads as reads
 use Rattle.assembly.proofs.building.coefficients_at.Lts as lts
-use Rattle.assembly.proofs.building.elevation.Reads as elevation-reads
+use Rattle.nodes.proofs.elevation.Reads as elevation-reads
 use Rattle.model.proofs.coefficients.Reads as coefficients-reads
 use Rattle.records.proofs.status_of.Reads as status-of-reads
 

@@ -6,10 +6,10 @@ use Rattle.assembly.proofs.building.place_link.Statement.{statement}
 use Rattle.assembly.proofs.building.place_link.Tie as tie
 use Rattle.assembly.proofs.building.place_link.Reads as reads
 use Rattle.assembly.proofs.building.place_link.Lts as lts
-use Rattle.assembly.proofs.building.is_fixed.Reads as is-fixed-reads
-use Rattle.assembly.proofs.numbering.unknown_of.Reads as unknown-of-reads
-use Rattle.assembly.proofs.scatter.link_into_matrix.Reads as link-into-matrix-reads
-use Rattle.assembly.proofs.scatter.link_into_row.Reads as link-into-row-reads
+use Rattle.nodes.proofs.is_fixed.Reads as is-fixed-reads
+use Rattle.nodes.proofs.unknown_of.Reads as unknown-of-reads
+use Rattle.scatter.proofs.link_into_matrix.Reads as link-into-matrix-reads
+use Rattle.scatter.proofs.link_into_row.Reads as link-into-row-reads
 
 unknown-of-requires : tie.Need-unknown-of-requires
 unknown-of-requires c κs = search needs

@@ -1,0 +1,2 @@
+-- The specs of `columns`.
+pub mod Columns

@@ -1,0 +1,3 @@
+-- The specs of `nodes`.
+pub mod Fields
+pub mod Numbering

@@ -1,0 +1,61 @@
+-- What a link adds changes no length. Assumes nothing.
+use mathlib.Core.Path.{_≡_, refl, _∙_}
+use mathlib.Core.Bool.{Bool, true, false, cond}
+use mathlib.Core.List.{List}
+use Prim.Native.Nat.{ℕ, _+_, _*_}
+use lib.ListN.{length}
+use lib.Ieee.{Float}
+use Rattle.model.specs.Arithmetic.{minus, times}
+use Rattle.model.specs.declared.link.Coefficients.{Coefficients}
+use Rattle.model.specs.declared.link.NodeAddition.{NodeAddition}
+use Rattle.nodes.specs.declared.numbering.Row.{Row}
+use Rattle.nodes.specs.declared.numbering.Row.the-variants.{Unknown, Fixed}
+use Rattle.columns.proofs.Laws.{add-long, take-long}
+use Rattle.scatter.specs.Scatter.{onRow, offRow, onDiagonal, lower, offBetween, givenDiagonal, givenRow, fixedTerm, linkMatrix, linkRow}
+
+on-row-long : (row : Row) (x : Float) (r : List Float) → length (onRow row x r) ≡ length r
+unfolding onRow
+on-row-long (Unknown u) x r = add-long r (u .0) x
+on-row-long Fixed x r = refl
+
+pub off-row-long : (row : Row) (x : Float) (r : List Float) → length (offRow row x r) ≡ length r
+unfolding offRow
+off-row-long (Unknown u) x r = take-long r (u .0) x
+off-row-long Fixed x r = refl
+
+pub on-diagonal-long : (row : Row) (x : Float) (m : List Float) → length (onDiagonal row x m) ≡ length m
+unfolding onDiagonal
+on-diagonal-long (Unknown u) x m = add-long m (64 * u .0 + u .0) x
+on-diagonal-long Fixed x m = refl
+
+between-long : (u v : Row) (x : Float) (m : List Float) → length (offBetween u v x m) ≡ length m
+unfolding offBetween
+between-long (Unknown u) (Unknown v) x m = take-long m (lower (u .0) (v .0)) x
+between-long (Unknown u) Fixed x m = refl
+between-long Fixed v x m = refl
+
+pub either-long : (b : Bool) (e f r : List Float) → length e ≡ length r → length f ≡ length r → length (cond b e f) ≡ length r
+either-long true e f r h k = h
+either-long false e f r h k = k
+
+given-diagonal-long : (a : NodeAddition) (row : Row) (m : List Float) → length (givenDiagonal a row m) ≡ length m
+unfolding givenDiagonal
+given-diagonal-long a row m = either-long (a .given) (onDiagonal row (a .diagonal) m) m m (on-diagonal-long row (a .diagonal) m) refl
+
+given-row-long : (a : NodeAddition) (row : Row) (r : List Float) → length (givenRow a row r) ≡ length r
+unfolding givenRow
+given-row-long a row r = either-long (a .given) (onRow row (a .rhs) r) r r (on-row-long row (a .rhs) r) refl
+
+fixed-long : (b : Bool) (row : Row) (x : Float) (r : List Float) → length (fixedTerm b row x r) ≡ length r
+unfolding fixedTerm
+fixed-long b row x r = either-long b (onRow row x r) r r (on-row-long row x r) refl
+
+pub matrix-long : (u v : Row) (c : Coefficients) (m : List Float) → length (linkMatrix u v c m) ≡ length m
+unfolding linkMatrix
+matrix-long u v c m =
+    given-diagonal-long (c .downstream) v _ ∙ given-diagonal-long (c .upstream) u _ ∙ between-long u v (c .conductance) _ ∙ on-diagonal-long v (c .conductance) _ ∙ on-diagonal-long u (c .conductance) m
+
+pub row-long : (u v : Row) (c : Coefficients) (q : Float) (s t : Bool) (x y : Float) (r : List Float) → length (linkRow u v c q s t x y r) ≡ length r
+unfolding linkRow
+row-long u v c q s t x y r =
+    given-row-long (c .downstream) v _ ∙ given-row-long (c .upstream) u _ ∙ fixed-long s v (times (c .conductance) x) _ ∙ on-row-long v (minus q (c .offset)) _ ∙ fixed-long t u (times (c .conductance) y) _ ∙ off-row-long u (minus q (c .offset)) r

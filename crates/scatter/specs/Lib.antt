@@ -1,0 +1,2 @@
+-- The specs of `scatter`.
+pub mod Scatter

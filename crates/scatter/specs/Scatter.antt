@@ -1,0 +1,81 @@
+-- Document 01, item 6: what one link adds to the matrix and to the right side, in the Rust's order. Definitions only.
+use Prim.Native.Nat.{ℕ, _+_, _*_, _<_}
+use mathlib.Core.Path.{_≡_}
+use mathlib.Core.Bool.{Bool, cond}
+use mathlib.Core.List.{List}
+use lib.Dec.{ltb}
+use lib.Ieee.{Float}
+use Rattle.linear.specs.declared.factorization.UnknownIndex.{UnknownIndex}
+use Rattle.model.specs.Arithmetic.{minus, times}
+use Rattle.model.specs.declared.link.Coefficients.{Coefficients}
+use Rattle.model.specs.declared.link.NodeAddition.{NodeAddition}
+use Rattle.columns.specs.Columns.{addTo, takeFrom}
+use Rattle.nodes.specs.declared.numbering.Row.{Row}
+use Rattle.nodes.specs.declared.numbering.Row.the-variants.{Unknown, Fixed}
+
+-- a row is one of the first n
+pub record RowBelow (n : ℕ) (row : Row) : Type 0 where
+  pub below : (u : UnknownIndex) → row ≡ Unknown u → u .0 < n
+
+-- x added to, and taken from, a row of the right side; a node that is no unknown has none
+unfoldable pub onRow : Row → Float → List Float → List Float
+unfolding addTo
+onRow (Unknown u) x r = addTo r (u .0) x
+onRow Fixed x r = r
+
+unfoldable pub offRow : Row → Float → List Float → List Float
+unfolding takeFrom
+offRow (Unknown u) x r = takeFrom r (u .0) x
+offRow Fixed x r = r
+
+-- x added to a diagonal
+unfoldable pub onDiagonal : Row → Float → List Float → List Float
+unfolding addTo
+onDiagonal (Unknown u) x m = addTo m (64 * u .0 + u .0) x
+onDiagonal Fixed x m = m
+
+-- the place of unknowns i and j in the lower triangle by columns: the greater one's row of the smaller one's column
+unfoldable pub lower : ℕ → ℕ → ℕ
+lower i j = cond {A = ℕ} (ltb i j) (64 * i + j) (64 * j + i)
+
+-- x taken from the entry of two unknowns
+unfoldable pub offBetween : Row → Row → Float → List Float → List Float
+unfolding takeFrom lower
+offBetween (Unknown u) (Unknown v) x m = takeFrom m (lower (u .0) (v .0)) x
+offBetween (Unknown u) Fixed x m = m
+offBetween Fixed v x m = m
+
+-- a regulator's addition; an absent one is not added
+unfoldable pub givenDiagonal : NodeAddition → Row → List Float → List Float
+unfolding onDiagonal
+givenDiagonal a row m = cond (a .given) (onDiagonal row (a .diagonal) m) m
+
+unfoldable pub givenRow : NodeAddition → Row → List Float → List Float
+unfolding onRow
+givenRow a row r = cond (a .given) (onRow row (a .rhs) r) r
+
+-- the term of a fixed head at the other end
+unfoldable pub fixedTerm : Bool → Row → Float → List Float → List Float
+unfolding onRow
+fixedTerm fixed row x r = cond fixed (onRow row x r) r
+
+-- a link from row u to row v in the matrix
+unfoldable pub linkMatrix : Row → Row → Coefficients → List Float → List Float
+unfolding onDiagonal offBetween givenDiagonal
+linkMatrix u v c m =
+    givenDiagonal (c .downstream) v
+    (givenDiagonal (c .upstream) u
+    (offBetween u v (c .conductance)
+    (onDiagonal v (c .conductance)
+    (onDiagonal u (c .conductance) m))))
+
+-- and in the right side, at flow q, with whether each end's head is fixed and the heads
+unfoldable pub linkRow : Row → Row → Coefficients → Float → Bool → Bool → Float → Float → List Float → List Float
+unfolding onRow offRow givenRow fixedTerm
+linkRow u v c q fixedStart fixedEnd headStart headEnd r =
+    givenRow (c .downstream) v
+    (givenRow (c .upstream) u
+    (fixedTerm fixedStart v (times (c .conductance) headStart)
+    (onRow v (minus q (c .offset))
+    (fixedTerm fixedEnd u (times (c .conductance) headEnd)
+    (offRow u (minus q (c .offset)) r)))))
