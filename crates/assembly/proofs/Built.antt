@@ -15,7 +15,7 @@ use Rattle.records.specs.Codes.{statusOf}
 use Rattle.records.specs.declared.codes.Status.{Status}
 use Rattle.records.specs.declared.records.Link.{Link}
 use Rattle.sheet.specs.Ends.{EndsBelow, inService}
-use Rattle.model.specs.Constants.{smallValue}
+use Rattle.constants.specs.Constants.{smallValue}
 use Rattle.model.specs.Rules.{coefficientsOf}
 use Rattle.model.specs.declared.link.Coefficients.{Coefficients}
 use Rattle.columns.specs.Columns.{cleared}

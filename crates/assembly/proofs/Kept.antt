@@ -8,7 +8,7 @@ use lib.Ieee.{Float, nan}
 use Rattle.records.specs.Offsets.{linkOffset}
 use Rattle.records.specs.Records.{linkAt}
 use Rattle.records.specs.declared.records.Link.{Link}
-use Rattle.model.specs.Constants.{smallValue}
+use Rattle.constants.specs.Constants.{smallValue}
 use Rattle.model.specs.declared.link.Coefficients.{Coefficients}
 use Rattle.columns.specs.Columns.{cleared}
 use Rattle.nodes.specs.Fields.{enabled, fixedNode}

@@ -10,7 +10,7 @@ use Rattle.records.specs.Records.{linkAt}
 use Rattle.records.specs.Codes.{statusOf}
 use Rattle.records.specs.declared.records.Link.{Link}
 use Rattle.sheet.specs.Ends.{EndsBelow}
-use Rattle.model.specs.Constants.{smallValue}
+use Rattle.constants.specs.Constants.{smallValue}
 use Rattle.model.specs.Rules.{coefficientsOf}
 use Rattle.model.specs.declared.link.Coefficients.{Coefficients}
 use Rattle.columns.specs.Columns.{cleared}

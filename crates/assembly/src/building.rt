@@ -9,6 +9,7 @@ ghost use Rattle.scatter.specs.Scatter.{RowBelow};
 ghost use Rattle.nodes.specs.Numbering.{RowsRight};
 ghost use Rattle.assembly.specs.Assembly.{system, Given, Sized, columns, coefficientsAt, linkIn, linkOf, linksOf, demandsOf, groundOf, groundedOf, assembleOf};
 use columns::clear;
+use constants::SMALL_VALUE;
 use model::Coefficients;
 use nodes::NodeIndex;
 use nodes::Row;
@@ -24,9 +25,6 @@ use scatter::add_to_diagonal;
 use scatter::link_into_matrix;
 use scatter::link_into_row;
 use scatter::take_from_row;
-
-// constants.rs.
-const SMALL_VALUE: f64 = 1e-6;
 
 // The coefficients of a link at its flow and status.
 fn coefficients_at(

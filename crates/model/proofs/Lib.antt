@@ -1,5 +1,1 @@
-pub mod Cases
 pub mod Made
-pub mod Decimals
-pub mod Bounded
-pub mod Bench

@@ -11,15 +11,15 @@ use Rattle.records.specs.Codes.{statusOf, linkKindOf}
 use Rattle.records.specs.declared.codes.Status.{Status}
 use Rattle.records.specs.declared.codes.LinkKind.{LinkKind}
 use Rattle.records.specs.declared.records.Link.{Link}
-use Rattle.model.specs.Arithmetic.{plus, minus, times, over}
-use Rattle.model.specs.Constants.{half, one, bigValue, qZero, cvHeadEpsilon, rqTol, hExponent}
+use Rattle.constants.specs.Arithmetic.{plus, minus, times, over}
+use Rattle.constants.specs.Constants.{half, one, bigValue, qZero, cvHeadEpsilon, rqTol, hExponent}
 use Rattle.model.specs.Link.{simpleOf, highResistance}
 use Rattle.model.specs.Pipe.{loss, frictionOf, withMinor, withBarrier, signedOf, carrying, pipeOf}
 use Rattle.model.specs.Valve.{valveCoefficients, minorLoss, regulatorOf, openValve, valveOf}
 use Rattle.model.specs.Rules.{byKind, coefficientsOf}
 use Rattle.model.specs.declared.link.Coefficients.{Coefficients}
 use Rattle.model.specs.declared.pipe.Loss.{Loss}
-use Rattle.model.proofs.Cases.{statusTag, kindTag, of-status, of-kind}
+use Rattle.status.proofs.Cases.{statusTag, kindTag, of-status, of-kind}
 
 -- ---- the pipe
 

@@ -1,10 +1,5 @@
-pub mod Arithmetic
-pub mod Constants
-pub mod Units
+-- The specs of `model`.
 pub mod Link
 pub mod Pipe
 pub mod Valve
-pub mod Status
 pub mod Rules
-pub mod Damping
-pub mod Bench

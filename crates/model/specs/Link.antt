@@ -1,8 +1,8 @@
 -- link.rs: a link's coefficients by value. Definitions only.
 use mathlib.Core.Bool.{true, false}
 use lib.Ieee.{Float}
-use Rattle.model.specs.Arithmetic.{over}
-use Rattle.model.specs.Constants.{zero, one, bigValue, smallValue}
+use Rattle.constants.specs.Arithmetic.{over}
+use Rattle.constants.specs.Constants.{zero, one, bigValue, smallValue}
 use Rattle.model.specs.declared.link.NodeAddition.{NodeAddition}
 use Rattle.model.specs.declared.link.Coefficients.{Coefficients}
 

@@ -7,12 +7,10 @@ use Rattle.float.specs.WholePower.{wholePower}
 use Rattle.power.specs.Power.{powerOf}
 use Rattle.records.specs.declared.codes.Status.{Status}
 use Rattle.records.specs.declared.codes.Status.the-variants.{Closed, Open, Active, TempClosed, FixedClosed, FixedOpen, XPressure, Xhead}
-use Rattle.model.specs.Arithmetic.{plus, minus, times, over}
-use Rattle.model.specs.Constants.{zero, half, one, two, bigValue, qZero, cvHeadEpsilon, rqTol, hExponent}
+use Rattle.constants.specs.Arithmetic.{plus, minus, times, over}
+use Rattle.constants.specs.Constants.{zero, half, one, two, bigValue, qZero, cvHeadEpsilon, rqTol, hExponent}
 use Rattle.model.specs.Link.{simpleOf, highResistance}
 use Rattle.model.specs.declared.link.Coefficients.{Coefficients}
-use Rattle.model.specs.declared.link.Change.{Change}
-use Rattle.model.specs.declared.link.Change.the-variants.{Stays, Becomes}
 use Rattle.model.specs.declared.pipe.Loss.{Loss}
 
 abbrev pub loss : Float → Float → Loss
@@ -65,14 +63,3 @@ pipeOf check ml r FixedClosed q = carrying check ml r q
 pipeOf check ml r FixedOpen q = carrying check ml r q
 pipeOf check ml r XPressure q = carrying check ml r q
 pipeOf check ml r Xhead q = carrying check ml r q
-
--- `Pipe::update_status`
-unfoldable pub pipeStatus : Status → Change
-pipeStatus TempClosed = Becomes Open
-pipeStatus Closed = Stays
-pipeStatus Open = Stays
-pipeStatus Active = Stays
-pipeStatus FixedClosed = Stays
-pipeStatus FixedOpen = Stays
-pipeStatus XPressure = Stays
-pipeStatus Xhead = Stays

@@ -4,13 +4,9 @@ use Rattle.records.specs.declared.codes.LinkKind.{LinkKind}
 use Rattle.records.specs.declared.codes.LinkKind.the-variants.{Pipe, Prv, Psv, Pbv, Fcv, Tcv, Pcv}
 use Rattle.records.specs.declared.codes.Status.{Status}
 use Rattle.records.specs.declared.records.Link.{Link}
-use Rattle.model.specs.Arithmetic.{plus}
-use Rattle.model.specs.Pipe.{pipeOf, pipeStatus}
+use Rattle.model.specs.Pipe.{pipeOf}
 use Rattle.model.specs.Valve.{valveOf}
-use Rattle.model.specs.Status.{prvStatus, psvStatus}
 use Rattle.model.specs.declared.link.Coefficients.{Coefficients}
-use Rattle.model.specs.declared.link.Change.{Change}
-use Rattle.model.specs.declared.link.Change.the-variants.{Stays}
 
 -- a pipe has the pipe's coefficients, every other kind the valve's
 abbrev pub byKind : LinkKind → Coefficients → Coefficients → Coefficients
@@ -26,13 +22,3 @@ byKind Pcv p v = v
 unfoldable pub coefficientsOf : Link → Status → Float → Float → Float → Float → Float → Coefficients
 coefficientsOf l status q excessUp excessDown up down =
     byKind (l .kind) (pipeOf (l .check) (l .minor) (l .resistance) status q) (valveOf l status q excessUp excessDown up down)
-
--- `Link::update_status`: the target head is the setting above the end of a PRV, and above the start of a PSV
-unfoldable pub updatedOf : LinkKind → Status → Float → Float → Float → Float → Float → Float → Change
-updatedOf Pipe status setting q headUp headDown up down = pipeStatus status
-updatedOf Prv status setting q headUp headDown up down = prvStatus (plus setting down) status q headUp headDown
-updatedOf Psv status setting q headUp headDown up down = psvStatus (plus setting up) status q headUp headDown
-updatedOf Pbv status setting q headUp headDown up down = Stays
-updatedOf Fcv status setting q headUp headDown up down = Stays
-updatedOf Tcv status setting q headUp headDown up down = Stays
-updatedOf Pcv status setting q headUp headDown up down = Stays

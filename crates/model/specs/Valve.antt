@@ -9,8 +9,8 @@ use Rattle.records.specs.declared.codes.LinkKind.the-variants.{Pipe, Prv, Psv, 
 use Rattle.records.specs.declared.codes.Status.{Status}
 use Rattle.records.specs.declared.codes.Status.the-variants.{Closed, Open, Active, TempClosed, FixedClosed, FixedOpen, XPressure, Xhead}
 use Rattle.records.specs.declared.records.Link.{Link}
-use Rattle.model.specs.Arithmetic.{plus, minus, times, over}
-use Rattle.model.specs.Constants.{zero, one, two, hundred, bigValue, smallValue, rqTol, lossFactor}
+use Rattle.constants.specs.Arithmetic.{plus, minus, times, over}
+use Rattle.constants.specs.Constants.{zero, one, two, hundred, bigValue, smallValue, rqTol, lossFactor}
 use Rattle.model.specs.Link.{noAddition, heldAt, simpleOf, highResistance, lowResistance}
 use Rattle.model.specs.declared.link.Coefficients.{Coefficients}
 

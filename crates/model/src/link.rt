@@ -1,8 +1,7 @@
-// A link's coefficients by value, and a change of its status.
+// A link's coefficients by value.
 ghost use mathlib.Core.Path.{_≡_};
 ghost use Rattle.model.specs.Link.{noAddition, heldAt, simpleOf};
-use crate::constants::BIG_VALUE;
-use records::Status;
+use constants::BIG_VALUE;
 
 // What is added at a node: to its diagonal and to its right-hand side. An absent addition, where
 // `given` is false, is never added.
@@ -18,12 +17,6 @@ pub struct Coefficients {
     pub offset: f64,
     pub upstream: NodeAddition,
     pub downstream: NodeAddition,
-}
-
-// The new status of a link, if a rule gives one.
-pub enum Change {
-    Stays,
-    Becomes(Status),
 }
 
 // No addition.

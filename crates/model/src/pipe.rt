@@ -1,15 +1,14 @@
-// A pipe's coefficients by Hazen-Williams, and its change of status.
+// A pipe's coefficients by Hazen-Williams.
 ghost use mathlib.Core.Path.{_≡_};
 ghost use Rattle.power.specs.Tables.{tableA, tableB};
-ghost use Rattle.model.specs.Pipe.{frictionOf, withMinor, withBarrier, pipeOf, pipeStatus};
-use crate::constants::BIG_VALUE;
-use crate::constants::CV_HEAD_EPSILON;
-use crate::constants::H_EXPONENT;
-use crate::constants::Q_ZERO;
-use crate::constants::RQ_TOL;
-use crate::link::Change;
+ghost use Rattle.model.specs.Pipe.{frictionOf, withMinor, withBarrier, pipeOf};
 use crate::link::Coefficients;
 use crate::link::simple;
+use constants::BIG_VALUE;
+use constants::CV_HEAD_EPSILON;
+use constants::H_EXPONENT;
+use constants::Q_ZERO;
+use constants::RQ_TOL;
 use float::abs;
 use float::root;
 use float::signum;
@@ -93,14 +92,4 @@ pub fn pipe_rule(
         return add_cv_head_loss(q, g_inv, y);
     }
     simple(g_inv, y)
-}
-
-// A pipe that a tank shut opens again.
-pub fn pipe_status(status: Status) -> Change
-    ensures { λ r. ⌜ r ≡ pipeStatus status ⌝ }
-{
-    match status {
-        Status::TempClosed => Change::Becomes(Status::Open),
-        _ => Change::Stays,
-    }
 }

@@ -1,13 +1,9 @@
-// One decision over the link's kind: its coefficients, and its change of status.
+// One decision over the link's kind: its coefficients.
 ghost use mathlib.Core.Path.{_≡_};
 ghost use Rattle.power.specs.Tables.{tableA, tableB};
-ghost use Rattle.model.specs.Rules.{coefficientsOf, updatedOf};
-use crate::link::Change;
+ghost use Rattle.model.specs.Rules.{coefficientsOf};
 use crate::link::Coefficients;
 use crate::pipe::pipe_rule;
-use crate::pipe::pipe_status;
-use crate::valve::prv_status;
-use crate::valve::psv_status;
 use crate::valve::valve_rule;
 use records::Link;
 use records::LinkKind;
@@ -41,25 +37,4 @@ pub fn coefficients(
         elevation_start,
         elevation_end,
     )
-}
-
-// The new status of a link.
-pub fn updated(
-    kind: LinkKind,
-    status: Status,
-    setting: f64,
-    q: f64,
-    head_start: f64,
-    head_end: f64,
-    elevation_start: f64,
-    elevation_end: f64,
-) -> Change
-    ensures { λ r. ⌜ r ≡ updatedOf kind status setting q «head_start» «head_end» «elevation_start» «elevation_end» ⌝ }
-{
-    match kind {
-        LinkKind::Pipe => pipe_status(status),
-        LinkKind::Prv => prv_status(setting + elevation_end, status, q, head_start, head_end),
-        LinkKind::Psv => psv_status(setting + elevation_start, status, q, head_start, head_end),
-        _ => Change::Stays,
-    }
 }

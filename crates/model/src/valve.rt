@@ -1,18 +1,14 @@
-// The valves' coefficients, and the changes of status of a PRV and a PSV.
+// The valves' coefficients.
 ghost use mathlib.Core.Path.{_≡_};
 ghost use Rattle.model.specs.Valve.{valveCoefficients, minorLoss, pcvMinorLoss, fcvOf, rightSide, prvOf, psvOf, regulatorOf, valveOf};
-ghost use Rattle.model.specs.Status.{becomesIf, closedIfNegative, prvStatus, psvStatus};
-use crate::constants::BIG_VALUE;
-use crate::constants::H_TOL;
-use crate::constants::LOSS_FACTOR;
-use crate::constants::Q_TOL;
-use crate::constants::RQ_TOL;
-use crate::constants::SMALL_VALUE;
-use crate::link::Change;
 use crate::link::Coefficients;
 use crate::link::absent;
 use crate::link::held;
 use crate::link::simple;
+use constants::BIG_VALUE;
+use constants::LOSS_FACTOR;
+use constants::RQ_TOL;
+use constants::SMALL_VALUE;
 use float::abs;
 use float::clamp;
 use float::smaller;
@@ -177,75 +173,5 @@ pub fn valve_rule(
             elevation_start,
             elevation_end,
         ),
-    }
-}
-
-// The status, if the test holds.
-fn becomes_if(test: bool, status: Status) -> Change
-    ensures { λ r. ⌜ r ≡ becomesIf test status ⌝ }
-{
-    if test {
-        return Change::Becomes(status);
-    }
-    Change::Stays
-}
-
-// Closed if the flow is negative.
-fn closed_if_negative(q: f64, change: Change) -> Change
-    ensures { λ r. ⌜ r ≡ closedIfNegative q change ⌝ }
-{
-    if q < -Q_TOL {
-        return Change::Becomes(Status::Closed);
-    }
-    change
-}
-
-// The new status of a PRV, by the head that it holds at its end.
-pub fn prv_status(target: f64, status: Status, q: f64, head_start: f64, head_end: f64) -> Change
-    ensures { λ r. ⌜ r ≡ prvStatus target status q «head_start» «head_end» ⌝ }
-{
-    match status {
-        Status::Active => {
-            closed_if_negative(q, becomes_if(head_start < target - H_TOL, Status::Open))
-        }
-        Status::Open => {
-            closed_if_negative(q, becomes_if(head_end > target + H_TOL, Status::Active))
-        }
-        Status::Closed => {
-            if (head_start >= target + H_TOL) & (head_end < target - H_TOL) {
-                return Change::Becomes(Status::Active);
-            }
-            becomes_if(
-                (head_start < target - H_TOL) & (head_start > head_end + H_TOL),
-                Status::Open,
-            )
-        }
-        Status::XPressure => closed_if_negative(q, Change::Stays),
-        _ => Change::Stays,
-    }
-}
-
-// The new status of a PSV, by the head that it holds at its start.
-pub fn psv_status(target: f64, status: Status, q: f64, head_start: f64, head_end: f64) -> Change
-    ensures { λ r. ⌜ r ≡ psvStatus target status q «head_start» «head_end» ⌝ }
-{
-    match status {
-        Status::Active => {
-            closed_if_negative(q, becomes_if(head_end > target + H_TOL, Status::Open))
-        }
-        Status::Open => {
-            closed_if_negative(q, becomes_if(head_start < target - H_TOL, Status::Active))
-        }
-        Status::Closed => {
-            if (head_end > target + H_TOL) & (head_start > head_end + H_TOL) {
-                return Change::Becomes(Status::Open);
-            }
-            becomes_if(
-                (head_start > target + H_TOL) & (head_start > head_end + H_TOL),
-                Status::Active,
-            )
-        }
-        Status::XPressure => closed_if_negative(q, Change::Stays),
-        _ => Change::Stays,
     }
 }

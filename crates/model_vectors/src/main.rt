@@ -3,10 +3,10 @@
 // 16 hex digits, `-` stands for an absent part.
 ghost use mathlib.Core.Path.{_≡_};
 ghost use Rattle.power.specs.Tables.{tableA, tableB};
-use model::Change;
 use model::Coefficients;
 use model::NodeAddition;
 use records::Link;
+use status::Change;
 
 const OUT: i32 = 1;
 
@@ -96,7 +96,7 @@ fn link_of(c: Case) -> Link {
 }
 
 fn status_case(c: Case) {
-    print_change(model::updated(
+    print_change(status::updated(
         records::link_kind(c.kind),
         records::status_of(c.code),
         c.x[0],
@@ -109,7 +109,7 @@ fn status_case(c: Case) {
 }
 
 fn converged_case(c: Case) {
-    if model::converged(c.x[0], c.x[1], c.flag == 1, c.x[2], c.code as usize, c.x[3]) {
+    if damping::converged(c.x[0], c.x[1], c.flag == 1, c.x[2], c.code as usize, c.x[3]) {
         io::write_all(OUT, b"1");
         return;
     }
@@ -133,8 +133,8 @@ fn answer(c: Case, a: &[u64; 1025], b: &[u64; 128])
             b,
         )),
         1 => status_case(c),
-        2 => hex(model::damped(c.x[0], c.x[1], c.x[2], c.x[3])),
-        3 => hex(model::relative_change(c.x[0], c.x[1], c.x[2])),
+        2 => hex(damping::damped(c.x[0], c.x[1], c.x[2], c.x[3])),
+        3 => hex(damping::relative_change(c.x[0], c.x[1], c.x[2])),
         _ => converged_case(c),
     }
     io::write_all(OUT, b"\n");

@@ -5,7 +5,7 @@ use mathlib.Core.List.{List}
 use Prim.Native.Nat.{ℕ, _+_, _*_}
 use lib.ListN.{length}
 use lib.Ieee.{Float}
-use Rattle.model.specs.Arithmetic.{minus, times}
+use Rattle.constants.specs.Arithmetic.{minus, times}
 use Rattle.model.specs.declared.link.Coefficients.{Coefficients}
 use Rattle.model.specs.declared.link.NodeAddition.{NodeAddition}
 use Rattle.nodes.specs.declared.numbering.Row.{Row}

@@ -6,7 +6,7 @@ use Prim.Native.Nat.{ℕ, _+_, _*_, _≤_, _<_}
 use lib.Ieee.{Float}
 use borrow.Author.Tests.{lt-ltb, le-ltb}
 use Rattle.linear.specs.declared.factorization.UnknownIndex.{UnknownIndex}
-use Rattle.model.specs.Arithmetic.{minus, times}
+use Rattle.constants.specs.Arithmetic.{minus, times}
 use Rattle.model.specs.declared.link.Coefficients.{Coefficients}
 use Rattle.model.specs.declared.link.NodeAddition.{NodeAddition}
 use Rattle.columns.specs.Columns.{addTo, takeFrom}

@@ -6,7 +6,7 @@ use mathlib.Core.List.{List}
 use lib.Dec.{ltb}
 use lib.Ieee.{Float}
 use Rattle.linear.specs.declared.factorization.UnknownIndex.{UnknownIndex}
-use Rattle.model.specs.Arithmetic.{minus, times}
+use Rattle.constants.specs.Arithmetic.{minus, times}
 use Rattle.model.specs.declared.link.Coefficients.{Coefficients}
 use Rattle.model.specs.declared.link.NodeAddition.{NodeAddition}
 use Rattle.columns.specs.Columns.{addTo, takeFrom}

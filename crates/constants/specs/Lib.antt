@@ -1,0 +1,3 @@
+-- The specs of `constants`.
+pub mod Arithmetic
+pub mod Constants

@@ -1,0 +1,3 @@
+-- The specs of `damping`.
+pub mod Damping
+pub mod Units

@@ -1,0 +1,2 @@
+-- The specs of `promises`.
+pub mod Bench

@@ -1,0 +1,66 @@
+-- The changes of a link's status (pipe.rs, valve.rs and link.rs): those of a PRV and a PSV go by the target head. Definitions only.
+use mathlib.Core.Bool.{Bool, _&&_, cond}
+use lib.Ieee.{Float, lt, le, neg}
+use Rattle.records.specs.declared.codes.LinkKind.{LinkKind}
+use Rattle.records.specs.declared.codes.LinkKind.the-variants.{Pipe, Prv, Psv, Pbv, Fcv, Tcv, Pcv}
+use Rattle.records.specs.declared.codes.Status.{Status}
+use Rattle.records.specs.declared.codes.Status.the-variants.{Closed, Open, Active, TempClosed, FixedClosed, FixedOpen, XPressure, Xhead}
+use Rattle.constants.specs.Arithmetic.{plus, minus}
+use Rattle.constants.specs.Constants.{qTol, hTol}
+use Rattle.status.specs.declared.Change.{Change}
+use Rattle.status.specs.declared.Change.the-variants.{Stays, Becomes}
+
+-- the Rust's `if test { Some(status) } else { None }`
+unfoldable pub becomesIf : Bool → Status → Change
+becomesIf test status = cond test (Becomes status) Stays
+
+-- closed if the flow is negative
+unfoldable pub closedIfNegative : Float → Change → Change
+closedIfNegative q change = cond (lt q (neg qTol)) (Becomes Closed) change
+
+-- `prv_status`
+unfoldable pub prvStatus : Float → Status → Float → Float → Float → Change
+prvStatus target Active q up down = closedIfNegative q (becomesIf (lt up (minus target hTol)) Open)
+prvStatus target Open q up down = closedIfNegative q (becomesIf (lt (plus target hTol) down) Active)
+prvStatus target Closed q up down =
+    cond (le (plus target hTol) up && lt down (minus target hTol)) (Becomes Active)
+    (becomesIf (lt up (minus target hTol) && lt (plus down hTol) up) Open)
+prvStatus target XPressure q up down = closedIfNegative q Stays
+prvStatus target TempClosed q up down = Stays
+prvStatus target FixedClosed q up down = Stays
+prvStatus target FixedOpen q up down = Stays
+prvStatus target Xhead q up down = Stays
+
+-- `psv_status`
+unfoldable pub psvStatus : Float → Status → Float → Float → Float → Change
+psvStatus target Active q up down = closedIfNegative q (becomesIf (lt (plus target hTol) down) Open)
+psvStatus target Open q up down = closedIfNegative q (becomesIf (lt up (minus target hTol)) Active)
+psvStatus target Closed q up down =
+    cond (lt (plus target hTol) down && lt (plus down hTol) up) (Becomes Open)
+    (becomesIf (lt (plus target hTol) up && lt (plus down hTol) up) Active)
+psvStatus target XPressure q up down = closedIfNegative q Stays
+psvStatus target TempClosed q up down = Stays
+psvStatus target FixedClosed q up down = Stays
+psvStatus target FixedOpen q up down = Stays
+psvStatus target Xhead q up down = Stays
+
+-- `Pipe::update_status`
+unfoldable pub pipeStatus : Status → Change
+pipeStatus TempClosed = Becomes Open
+pipeStatus Closed = Stays
+pipeStatus Open = Stays
+pipeStatus Active = Stays
+pipeStatus FixedClosed = Stays
+pipeStatus FixedOpen = Stays
+pipeStatus XPressure = Stays
+pipeStatus Xhead = Stays
+
+-- `Link::update_status`: the target head is the setting above the end of a PRV, and above the start of a PSV
+unfoldable pub updatedOf : LinkKind → Status → Float → Float → Float → Float → Float → Float → Change
+updatedOf Pipe status setting q headUp headDown up down = pipeStatus status
+updatedOf Prv status setting q headUp headDown up down = prvStatus (plus setting down) status q headUp headDown
+updatedOf Psv status setting q headUp headDown up down = psvStatus (plus setting up) status q headUp headDown
+updatedOf Pbv status setting q headUp headDown up down = Stays
+updatedOf Fcv status setting q headUp headDown up down = Stays
+updatedOf Tcv status setting q headUp headDown up down = Stays
+updatedOf Pcv status setting q headUp headDown up down = Stays
