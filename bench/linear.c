@@ -14,7 +14,7 @@ void linear_bench_substitute(const double *l, size_t l_length, size_t n, double 
 
 enum { STRIDE = 64, SIZE = STRIDE * STRIDE, RUNS = 4001, VARIANTS = 3 };
 
-/* crate float's root, of a finite number above zero: its digits one by one */
+/* crate roots' root, of a finite number above zero: its digits one by one */
 static double digit_root(double x)
 {
     uint64_t p;

@@ -1,4 +1,4 @@
-"""The vectors of crates float and power, and the arithmetic that their answers come from."""
+"""The vectors of crates float, roots and power, and the arithmetic that their answers come from."""
 import math
 import os
 import random

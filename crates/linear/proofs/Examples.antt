@@ -5,7 +5,7 @@ use mathlib.Core.List.{List, [], _∷_}
 use lib.Count.{leadingZeros, trailingZeros}
 use lib.ListN.{replicate, set}
 use lib.Ieee.{Float, nan, binary64, ofBits, ofFields, toBits, isNan, add, sub, mul, div, lt, round, units, odd, size, span, climb}
-use Rattle.float.specs.Root.{wholeRootIn, wholeRoot, moved, exponent, scaled, rootBits, rootOf}
+use Rattle.roots.specs.Root.{wholeRootIn, wholeRoot, moved, exponent, scaled, rootBits, rootOf}
 use Rattle.linear.specs.declared.factorization.Factored.the-variants.{Done, Stopped}
 use Rattle.linear.specs.Matrix.{at, fill}
 use Rattle.linear.specs.Factorization.{less, reduced, divided, columns, factorOf}

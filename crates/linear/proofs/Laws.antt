@@ -6,7 +6,7 @@ use mathlib.Core.List.{List}
 use native.Mathlib.Omega.{arith}
 use lib.ListN.{length, length-set}
 use lib.Ieee.{Float}
-use Rattle.float.specs.Root.{rootOf}
+use Rattle.roots.specs.Root.{rootOf}
 use Rattle.linear.specs.declared.factorization.UnknownIndex.{UnknownIndex}
 use Rattle.linear.specs.declared.factorization.Factored.the-variants.{Stopped}
 use Rattle.linear.specs.Matrix.{at, put}

@@ -7,7 +7,7 @@ use Prim.Native.Nat.{ℕ, _+_, _-_, _*_, _^_}
 use lib.Count.{trailingZeros}
 use lib.Dec.{T, ltb, ltb→lt}
 use lib.Ieee.{binary64, odd, size, span, climb, ofBits, ofFields, toBits}
-use Rattle.float.specs.Nearest.{units}
+use Rattle.nearest.specs.Nearest.{units}
 use Rattle.power.proofs.Table.{both, both-left, both-right}
 use Rattle.model.specs.Constants.{Decimal, IsNearest, decimals}
 

@@ -11,11 +11,11 @@ use crate::link::Change;
 use crate::link::Coefficients;
 use crate::link::simple;
 use float::abs;
-use float::root;
 use float::signum;
 use float::whole_power;
 use power::power;
 use records::Status;
+use roots::root;
 
 // A head loss and its gradient, for the flow's magnitude.
 pub struct Loss {

@@ -7,8 +7,8 @@ use native.Mathlib.Nat.{lt-of-mul-lt-mul-left, mul-pos, mul-assoc, mul-left-comm
 use native.Mathlib.Omega.{arith}
 use lib.ListN.{getD}
 use lib.Pow.{pow-add, pow-pos}
-use Rattle.float.specs.Nearest.{units, Nearest}
-use Rattle.float.proofs.Units.{mul-pow, pow-mul}
+use Rattle.nearest.specs.Nearest.{units, Nearest}
+use Rattle.nearest.proofs.Units.{mul-pow, pow-mul}
 use Rattle.power.specs.Tables.{tableA, tableB}
 use Rattle.power.proofs.Test.{low-middle, high-middle, aimA, aimB, Between, fieldA, betweenA, fieldB, betweenB}
 use Rattle.power.proofs.Middles.{lower, upper}

@@ -7,8 +7,8 @@ use native.Mathlib.Nat.{add-mul, mul-assoc, pow-suc, eq-or-lt-of-le}
 use native.Mathlib.Omega.{arith}
 use lib.Dec.{eqb, lit≤}
 use borrow.Author.Tests.{eq-eqb, ne-eqb}
-use Rattle.float.specs.Nearest.{units}
-use Rattle.float.proofs.Units.{units-to}
+use Rattle.nearest.specs.Nearest.{units}
+use Rattle.nearest.proofs.Units.{units-to}
 use Rattle.power.proofs.Test.{four, low-middle, high-middle}
 
 -- b has the exponent's field f + 2 and the significand w

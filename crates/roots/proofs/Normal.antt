@@ -10,13 +10,10 @@ use lib.Dec.{eqb}
 use lib.Pow.{pow-mono, pow-add, pow-pos}
 use lib.Count.{leadingZeros, leading-top}
 use borrow.Author.Tests.{eqb-true}
-use Rattle.float.specs.Root.{wholeRoot, moved, exponent, scaled, rootBits}
-use Rattle.float.specs.Nearest.{field, significand}
-use Rattle.float.proofs.Roots.{IsRoot, root-is}
-
-pub record Positive (p : ℕ) : Type 0 where
-  pub above : 0 < p
-  pub below : p < 2047 * 2 ^ 52
+use Rattle.roots.specs.Root.{wholeRoot, moved, exponent, scaled, rootBits}
+use Rattle.nearest.specs.Nearest.{field, significand}
+use Rattle.nearest.proofs.Values.{Positive}
+use Rattle.roots.proofs.Roots.{IsRoot, root-is}
 
 -- the significand, by whether the field is 0
 sig : (p : ℕ) → Positive p → (b : Bool) → eqb (p / 2 ^ 52) 0 ≡ b → (0 < p % 2 ^ 52 + cond {A = ℕ} b 0 (2 ^ 52)) × (p % 2 ^ 52 + cond {A = ℕ} b 0 (2 ^ 52) < 2 ^ 53)

@@ -5,8 +5,8 @@ use native.Mathlib.Nat.{pow-zero, pow-suc, mul-assoc, lt-of-lt-of-le}
 use native.Mathlib.Numerals.{add-one}
 use native.Mathlib.Omega.{arith}
 use lib.Pow.{pow-mono}
-use Rattle.float.specs.Root.{wholeRoot}
-use Rattle.float.proofs.Roots.{even-square, odd-square, next-square, is-root}
+use Rattle.roots.specs.Root.{wholeRoot}
+use Rattle.roots.proofs.Roots.{even-square, odd-square, next-square, is-root}
 
 pub record Digits (n a rest r i : ℕ) : Type 0 where
   pub count : i ≤ 54

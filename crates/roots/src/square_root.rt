@@ -1,8 +1,8 @@
 // The square root of an f64, from bits.
 ghost use mathlib.Core.Path.{_≡_};
 ghost use Prim.Native.Nat.{_*_, _^_, _≤_, _<_};
-ghost use Rattle.float.specs.Root.{wholeRoot, rootBits, rootOf};
-ghost use Rattle.float.specs.Nearest.{field, significand};
+ghost use Rattle.roots.specs.Root.{wholeRoot, rootBits, rootOf};
+ghost use Rattle.nearest.specs.Nearest.{field, significand};
 
 // The whole root of n * 2^54: the digits of n are shifted in two at a time, and each digit of the root is decided by a comparison.
 fn whole_root(n: u64) -> u64

@@ -5,9 +5,10 @@ use Prim.Native.Nat.{ℕ, zero, suc, _*_, _%_, _^_, _≤_, _<_}
 use native.Mathlib.Omega.{arith}
 use lib.Ieee.{Float, nan, binary64, isNan, ne, toBits, ofBits}
 use borrow.Author.Tests.{lt-ltb, le-ltb, le-leb, lt-leb, eq-eqb, ne-eqb}
-use Rattle.float.specs.Root.{rootOf, rootBits}
+use Rattle.roots.specs.Root.{rootOf, rootBits}
 use Rattle.float.proofs.Nans.{not-nan}
-use Rattle.float.proofs.Normal.{Positive, root-in, exponent-in}
+use Rattle.nearest.proofs.Values.{Positive}
+use Rattle.roots.proofs.Normal.{root-in, exponent-in}
 
 pub nonzero : (p : ℕ) → (p % 2 ^ 63 ≡ 0 → ⊥) → 0 < p
 nonzero zero h = absurd (h refl)

@@ -4,11 +4,12 @@ use Prim.Native.Nat.{ℕ, _+_, _-_, _*_, _%_, _^_}
 use native.Mathlib.Omega.{arith}
 use borrow.Author.Needs.{needs}
 use lib.Count.{leadingZeros}
-use Rattle.float.specs.Root.{wholeRoot, scaled}
-use Rattle.float.specs.Nearest.{field, significand}
-use Rattle.float.proofs.Normal.{Positive, zeros, scaled-in, root-in, up, scaled-as, bits-as}
-use Rattle.float.proofs.square_root.root_bits.Statement.{statement}
-use Rattle.float.proofs.square_root.root_bits.Tie as tie
+use Rattle.roots.specs.Root.{wholeRoot, scaled}
+use Rattle.nearest.specs.Nearest.{field, significand}
+use Rattle.nearest.proofs.Values.{Positive}
+use Rattle.roots.proofs.Normal.{zeros, scaled-in, root-in, up, scaled-as, bits-as}
+use Rattle.roots.proofs.square_root.root_bits.Statement.{statement}
+use Rattle.roots.proofs.square_root.root_bits.Tie as tie
 
 -- the pattern, what is known of it, and the locals in the specification's words
 abbrev p : tie.After-significand → ℕ

@@ -3,9 +3,9 @@ use mathlib.Core.Path.{refl}
 use mathlib.Core.Logic.{⊎-elim}
 use Prim.Native.Nat.{_-_}
 use native.Mathlib.Omega.{arith}
-use Rattle.float.proofs.Digits.{Digits, start, bound, one, none, done}
-use Rattle.float.proofs.square_root.whole_root.Statement.{statement}
-use Rattle.float.proofs.square_root.whole_root.Tie as tie
+use Rattle.roots.proofs.Digits.{Digits, start, bound, one, none, done}
+use Rattle.roots.proofs.square_root.whole_root.Statement.{statement}
+use Rattle.roots.proofs.square_root.whole_root.Tie as tie
 
 abbrev Inv-loop : tie.InvT-loop
 Inv-loop n a₀ rest₀ r₀ i₀ a rest r i = Digits n a rest r i

@@ -4,11 +4,11 @@ use Prim.Native.Nat.{ℕ}
 use native.Mathlib.Omega.{arith}
 use lib.Ieee.{Float, binary64, toBits, ofBits, div, ofFields, odd}
 use borrow.Author.Needs.{needs}
-use Rattle.float.proofs.Cases.{gives-nan, gives-zero, gives-negative, gives-infinity, gives-root, root-field, nonzero}
+use Rattle.roots.proofs.Cases.{gives-nan, gives-zero, gives-negative, gives-infinity, gives-root, root-field, nonzero}
 use Rattle.float.proofs.Nans.{is-nan, has-pattern, no-nan}
-use Rattle.float.proofs.Normal.{Positive}
-use Rattle.float.proofs.square_root.root.Statement.{statement}
-use Rattle.float.proofs.square_root.root.Tie as tie
+use Rattle.nearest.proofs.Values.{Positive}
+use Rattle.roots.proofs.square_root.root.Statement.{statement}
+use Rattle.roots.proofs.square_root.root.Tie as tie
 
 -- the argument's pattern
 abbrev x : tie.Else1 → Float

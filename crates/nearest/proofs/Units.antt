@@ -10,7 +10,7 @@ use native.Mathlib.Omega.{arith}
 use lib.Dec.{ltb, lit<, lit≤}
 use lib.Pow.{pow-pos, pow-add}
 use borrow.Author.Tests.{eq-eqb, ne-eqb, ltb-true, ltb-false}
-use Rattle.float.specs.Nearest.{units, Nearest}
+use Rattle.nearest.specs.Nearest.{units, Nearest}
 
 -- ---- a pattern by its exponent g and its significand w, of 53 digits or 2 ^ 53
 

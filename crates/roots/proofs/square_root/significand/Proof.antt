@@ -3,8 +3,8 @@ use Prim.Native.Nat.{_/_, _^_}
 use native.Mathlib.Nat.{add-zero}
 use borrow.Author.Needs.{needs}
 use borrow.Author.Tests.{eq-eqb, ne-eqb}
-use Rattle.float.proofs.square_root.significand.Statement.{statement}
-use Rattle.float.proofs.square_root.significand.Tie as tie
+use Rattle.roots.proofs.square_root.significand.Statement.{statement}
+use Rattle.roots.proofs.square_root.significand.Tie as tie
 
 add-result : tie.Need-add-result
 add-result c = search needs

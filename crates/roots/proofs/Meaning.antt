@@ -1,25 +1,23 @@
 -- `rootBits p` is the pattern nearest to the root of p, and no other pattern is. Assumes nothing.
 use mathlib.Core.Path.{_≡_, refl, sym, ap, _∙_, subst}
-use mathlib.Core.Bool.{Bool, false, cond}
+use mathlib.Core.Bool.{Bool, not}
 use mathlib.Core.Logic.{⊎-elim, _⊎_, inl, inr}
-use Prim.Native.Nat.{ℕ, zero, suc, _+_, _-_, _*_, _/_, _%_, _^_, _≤_, _<_, zero-le, max}
-use native.Mathlib.Nat.{pow-zero, one-mul, mul-pos, eq-or-lt-of-le, le-of-lt, mul-le-mul-left, add-zero, pow-suc, mul-assoc, mul-comm, mul-left-comm, add-mul, mul-le-mul, mul-le-mul-right, mul-lt-mul-of-pos-right, lt-of-lt-of-le, lt-of-le-of-lt, lt-of-not-le, not-le-of-lt}
+use Prim.Native.Nat.{ℕ, zero, suc, _+_, _-_, _*_, _/_, _%_, _^_, _≤_, _<_, zero-le}
+use native.Mathlib.Nat.{pow-zero, one-mul, mul-pos, eq-or-lt-of-le, le-of-lt, mul-le-mul-left, pow-suc, mul-assoc, mul-comm, mul-left-comm, add-mul, mul-le-mul, mul-le-mul-right, mul-lt-mul-of-pos-right, lt-of-lt-of-le, lt-of-le-of-lt, lt-of-not-le, not-le-of-lt}
 use native.Mathlib.Omega.{arith}
-use lib.Dec.{eqb, lit≤}
+use lib.Dec.{T, lit≤}
 use lib.Pow.{pow-add, pow-pos}
 use borrow.Author.Tests.{ne-eqb, lt-leb, le-ltb}
-use lib.Dec.{T}
-use mathlib.Core.Bool.{not}
-use lib.Ieee.{Float, nan, inf, fin, binary64, ofBits, ofFields, toBits, fits, isNan}
+use lib.Ieee.{Float, binary64, ofBits, toBits, fits}
 use lib.Ieee.Bits.{ofBits-toBits, ofBits-fits, toBits-ofBits, nanBits-is}
 use Rattle.float.proofs.Nans.{no-nan}
-use Rattle.float.proofs.Cases.{root-field}
-use lib.Ieee.Exact.{HasValue, odd-sign}
-use Rattle.float.specs.Root.{wholeRoot, moved, exponent, scaled, rootBits, rootOf}
-use Rattle.float.specs.Nearest.{field, significand, units, Nearest}
-use Rattle.float.proofs.Units.{units-to, unique}
-use Rattle.float.proofs.Roots.{IsRoot, root-is, next-square, odd-square}
-use Rattle.float.proofs.Normal.{Positive, normal, parity, scaled-in, root-in, exponent-in}
+use Rattle.roots.proofs.Cases.{root-field}
+use Rattle.roots.specs.Root.{wholeRoot, moved, exponent, scaled, rootBits, rootOf}
+use Rattle.nearest.specs.Nearest.{field, significand, units, Nearest}
+use Rattle.nearest.proofs.Units.{units-to, unique}
+use Rattle.nearest.proofs.Values.{Positive, plain}
+use Rattle.roots.proofs.Roots.{IsRoot, root-is, next-square, odd-square}
+use Rattle.roots.proofs.Normal.{normal, parity, scaled-in, root-in, exponent-in}
 
 -- ---- squares
 
@@ -179,30 +177,7 @@ module _ (p : ℕ) (h : Positive p) where
         below = rw (pow-two (units (rootBits p) + units (rootBits p + 1)), squares) (mul-lt-mul-of-pos-right below (pow-pos 1074));
       }
 
--- ---- a pattern's number is that of its f64
-
-by-fields : (q t : ℕ) → q < 2047 → HasValue (ofFields binary64 false q t) false ((t + cond {A = ℕ} (eqb q 0) 0 (2 ^ 52)) * 2 ^ (max q 1 - 1)) (2 ^ 1074)
-unfolding ofFields
-by-fields zero t h = rw (add-zero t) (odd-sign 53 false t 0 1074)
-by-fields (suc x) t h =
-    let m : max (suc x) 1 - 1 ≡ x = omega arith in
-    let c : t + 2 ^ 52 ≡ 2 ^ 52 + t = omega arith in
-    simp (ne-eqb (suc x) 2047 (λ e. omega arith), ne-eqb (suc x) 0 (λ e. omega arith), m, c) (odd-sign 53 false (2 ^ 52 + t) x 1074)
-
-pub value : (p : ℕ) → Positive p → HasValue (ofBits binary64 p) false (units p) (2 ^ 1074)
-unfolding ofBits units
-value p h =
-    let e : p % 2 ^ 63 ≡ p = omega arith in
-    simp (lt-leb (2 ^ 63) p (omega arith), e) (by-fields (p / 2 ^ 52) (p % 2 ^ 52) (omega arith))
-
 -- ---- of an f64 that is finite and above zero
-
--- x is no NaN: the pattern of one is not below that of the infinity
-pub plain : (x : Float) → toBits binary64 x < 2047 * 2 ^ 52 → isNan x ≡ false
-unfolding isNan toBits
-plain nan h = absurd (omega arith)
-plain (inf s) h = refl
-plain (fin s m e) h = refl
 
 gives : (x : Float) → Positive (toBits binary64 x) → rootOf x ≡ ofBits binary64 (rootBits (toBits binary64 x))
 unfolding rootOf
@@ -220,9 +195,6 @@ right x t h =
     subst (λ (s : ℕ). Nearest 2 (units p) (2 ^ 1074) s)
     (sym (ap (toBits binary64) (gives x h) ∙ toBits-ofBits binary64 (rootBits p) (omega (arith, root-field p h)) (subst (λ (b : Bool). T (not b)) (nanBits-is binary64 (rootBits p)) (no-nan (rootBits p) in-range))))
     (nearest p h)
-
-pub number : (x : Float) → T (fits binary64 x) → Positive (toBits binary64 x) → HasValue x false (units (toBits binary64 x)) (2 ^ 1074)
-number x t h = subst (λ (y : Float). HasValue y false (units (toBits binary64 x)) (2 ^ 1074)) (ofBits-toBits binary64 x t) (value (toBits binary64 x) h)
 
 -- no other f64 is the nearest
 pub only : (x y : Float) → T (fits binary64 x) → T (fits binary64 y) → Positive (toBits binary64 x) → Nearest 2 (units (toBits binary64 x)) (2 ^ 1074) (toBits binary64 y) → y ≡ rootOf x
