@@ -1,4 +1,4 @@
-/* Times crate linear against the same algorithm in C on the processor at hand. Each time is the
+/* Times crates linear and substitution against the same algorithm in C on the processor at hand. Each time is the
    median of many runs, each on a matrix of its own, the variants taking turns. */
 #include <math.h>
 #include <stddef.h>

@@ -1,4 +1,4 @@
--- `sheet::ends::ends_good` meets its contract. Assumes nothing.
+-- `ends::ends::ends_good` meets its contract. Assumes nothing.
 use borrow.Author.Needs.{needs}
 use Rattle.ends.proofs.Made.{ends-good}
 use Rattle.ends.proofs.ends.ends_good.Statement.{statement}

@@ -1,4 +1,4 @@
--- `sheet::ends::in_service` meets its contract. Assumes nothing.
+-- `ends::ends::in_service` meets its contract. Assumes nothing.
 use mathlib.Core.Path.{ap}
 use mathlib.Core.Bool.{_&&_}
 use Prim.Native.Nat.{ℕ, _+_}

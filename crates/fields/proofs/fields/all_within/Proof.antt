@@ -1,4 +1,4 @@
--- `sheet::fields::all_within` meets its contract: the floats passed so far are within. Assumes nothing.
+-- `fields::fields::all_within` meets its contract: the floats passed so far are within. Assumes nothing.
 use mathlib.Core.Path.{_≡_, refl, ap, _∙_}
 use Prim.Native.Nat.{ℕ, _-_, _≤_}
 use native.Mathlib.Omega.{arith}

@@ -1,4 +1,4 @@
--- `sheet::fields::base_bounds` meets its contract. Assumes nothing.
+-- `fields::fields::base_bounds` meets its contract. Assumes nothing.
 use mathlib.Core.Path.{refl}
 use Rattle.fields.specs.Fields.{baseBounds}
 use Rattle.fields.proofs.fields.base_bounds.Statement.{statement}

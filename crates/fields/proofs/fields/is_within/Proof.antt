@@ -1,4 +1,4 @@
--- `sheet::fields::is_within` meets its contract. Assumes nothing.
+-- `fields::fields::is_within` meets its contract. Assumes nothing.
 use mathlib.Core.Path.{ap}
 use lib.Ieee.{Float, le}
 use borrow.Author.Needs.{needs}

@@ -1,4 +1,4 @@
--- `sheet::fields::link_codes` meets its contract. Assumes nothing.
+-- `fields::fields::link_codes` meets its contract. Assumes nothing.
 use borrow.Author.Needs.{needs}
 use Rattle.fields.proofs.Made.{link-codes}
 use Rattle.fields.proofs.fields.link_codes.Statement.{statement}

@@ -1,4 +1,4 @@
--- `sheet::fields::link_good` meets its contract. Assumes nothing.
+-- `fields::fields::link_good` meets its contract. Assumes nothing.
 use borrow.Author.Needs.{needs}
 use Rattle.fields.proofs.Made.{link-good}
 use Rattle.fields.proofs.fields.link_good.Statement.{statement}

@@ -1,4 +1,4 @@
--- `sheet::fields::link_numbers` meets its contract. Assumes nothing.
+-- `fields::fields::link_numbers` meets its contract. Assumes nothing.
 use borrow.Author.Needs.{needs}
 use Rattle.fields.proofs.Made.{link-numbers}
 use Rattle.fields.proofs.fields.link_numbers.Statement.{statement}

@@ -1,4 +1,4 @@
--- `sheet::fields::node_good` meets its contract. Assumes nothing.
+-- `fields::fields::node_good` meets its contract. Assumes nothing.
 use borrow.Author.Needs.{needs}
 use Rattle.fields.proofs.Made.{node-good}
 use Rattle.fields.proofs.fields.node_good.Statement.{statement}

@@ -1,4 +1,4 @@
--- `sheet::fields::options_good` meets its contract. Assumes nothing.
+-- `fields::fields::options_good` meets its contract. Assumes nothing.
 use native.Mathlib.Omega.{arith}
 use borrow.Author.Needs.{needs}
 use Rattle.fields.proofs.Made.{options-good}

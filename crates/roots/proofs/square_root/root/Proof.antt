@@ -1,4 +1,4 @@
--- `float::square_root::root` meets its contract. Assumes nothing.
+-- `roots::square_root::root` meets its contract. Assumes nothing.
 use mathlib.Core.Path.{sym, ap, _∙_}
 use Prim.Native.Nat.{ℕ}
 use native.Mathlib.Omega.{arith}

@@ -1,4 +1,4 @@
--- `float::square_root::root_bits` meets its contract. Assumes nothing.
+-- `roots::square_root::root_bits` meets its contract. Assumes nothing.
 use mathlib.Core.Path.{_≡_, ap, _∙_}
 use Prim.Native.Nat.{ℕ, _+_, _-_, _*_, _%_, _^_}
 use native.Mathlib.Omega.{arith}

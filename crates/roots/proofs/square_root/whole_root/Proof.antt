@@ -1,4 +1,4 @@
--- `float::square_root::whole_root` meets its contract. The invariant is `Digits`. Assumes nothing.
+-- `roots::square_root::whole_root` meets its contract. The invariant is `Digits`. Assumes nothing.
 use mathlib.Core.Path.{refl}
 use mathlib.Core.Logic.{⊎-elim}
 use Prim.Native.Nat.{_-_}

@@ -1,13 +1,13 @@
--- `linear::substitution::subtract_term` meets its contract. The invariant: the rows down to r are less the term of unknown k. Assumes nothing.
+-- `substitution::substitution::subtract_term` meets its contract. The invariant: the rows down to r are less the term of unknown k. Assumes nothing.
 use native.Mathlib.Omega.{arith}
 use Prim.Native.Nat.{suc, _-_, _≤_, _<_}
 use mathlib.Core.Path.{_≡_, refl}
 use lib.ListN.{length, getD, length-set}
 use lib.Ieee.{nan}
-use Rattle.linear.specs.Substitution.{lessTerm}
-use Rattle.linear.proofs.SubstituteTurns.{term-none, term-next}
-use Rattle.linear.proofs.substitution.subtract_term.Statement.{statement}
-use Rattle.linear.proofs.substitution.subtract_term.Tie as tie
+use Rattle.substitution.specs.Substitution.{lessTerm}
+use Rattle.substitution.proofs.SubstituteTurns.{term-none, term-next}
+use Rattle.substitution.proofs.substitution.subtract_term.Statement.{statement}
+use Rattle.substitution.proofs.substitution.subtract_term.Tie as tie
 
 abbrev Inv-loop : tie.InvT-loop
 Inv-loop l n k x₀ y r₀ x r = (length x ≡ length x₀) × (k < r) × (r ≤ n) × (y ≡ getD x₀ k nan) × (x ≡ lessTerm l k (r - suc k) x₀)

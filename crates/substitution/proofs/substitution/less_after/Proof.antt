@@ -1,11 +1,11 @@
--- `linear::substitution::less_after` meets its contract. The invariant: s is the row's right side less the terms up to k. Assumes nothing.
+-- `substitution::substitution::less_after` meets its contract. The invariant: s is the row's right side less the terms up to k. Assumes nothing.
 use native.Mathlib.Omega.{arith}
 use Prim.Native.Nat.{suc, _-_, _≤_, _<_}
 use mathlib.Core.Path.{_≡_}
-use Rattle.linear.specs.Substitution.{after}
-use Rattle.linear.proofs.SubstituteTurns.{after-none, after-next}
-use Rattle.linear.proofs.substitution.less_after.Statement.{statement}
-use Rattle.linear.proofs.substitution.less_after.Tie as tie
+use Rattle.substitution.specs.Substitution.{after}
+use Rattle.substitution.proofs.SubstituteTurns.{after-none, after-next}
+use Rattle.substitution.proofs.substitution.less_after.Statement.{statement}
+use Rattle.substitution.proofs.substitution.less_after.Tie as tie
 
 abbrev Inv-loop : tie.InvT-loop
 Inv-loop l x r n s₀ k₀ s k = (r < k) × (k ≤ n) × (s ≡ after l x r (k - suc r))

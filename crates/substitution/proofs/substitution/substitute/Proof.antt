@@ -1,12 +1,12 @@
--- `linear::substitution::substitute` meets its contract. The invariants: k unknowns are known, and the rows after them less their terms; what is left of back substitution comes to the whole. Assumes nothing.
+-- `substitution::substitution::substitute` meets its contract. The invariants: k unknowns are known, and the rows after them less their terms; what is left of back substitution comes to the whole. Assumes nothing.
 use native.Mathlib.Omega.{arith}
 use Prim.Native.Nat.{_-_, _≤_}
 use mathlib.Core.Path.{_≡_, refl, _∙_}
 use lib.ListN.{length, length-set}
-use Rattle.linear.specs.Substitution.{back}
-use Rattle.linear.proofs.SubstituteTurns.{known, known-none, known-next, back-next, solved-end}
-use Rattle.linear.proofs.substitution.substitute.Statement.{statement}
-use Rattle.linear.proofs.substitution.substitute.Tie as tie
+use Rattle.substitution.specs.Substitution.{back}
+use Rattle.substitution.proofs.SubstituteTurns.{known, known-none, known-next, back-next, solved-end}
+use Rattle.substitution.proofs.substitution.substitute.Statement.{statement}
+use Rattle.substitution.proofs.substitution.substitute.Tie as tie
 
 abbrev Inv-loop : tie.InvT-loop
 Inv-loop l n x₀ k₀ x k = (k ≤ n) × (length x ≡ length x₀) × (x ≡ known l n k x₀)

@@ -7,9 +7,9 @@ use native.Mathlib.Numerals.{add-one}
 use lib.ListN.{length, getD, set, length-set}
 use lib.Seq.{getD-set-other}
 use lib.Ieee.{Float, nan, binary64, sub, mul, div}
 use Rattle.linear.specs.Matrix.{at, fill, rows}
-use Rattle.linear.specs.Substitution.{before, forward, after, back, solved, lessTerm}
+use Rattle.substitution.specs.Substitution.{before, forward, after, back, solved, lessTerm}
 use Rattle.linear.proofs.Filling.{fill-cong, fill-before, fill-after, fill-at, fill-fill, fill-same, fill-next, fill-first}
 
 -- the terms after r, counted by the next unknown k
 pub after-none : (l x : List Float) (r : ℕ) → getD x r nan ≡ after l x r (r + 1 - suc r)

@@ -2,7 +2,7 @@
 ghost use mathlib.Core.Path.{_≡_};
 ghost use Prim.Native.Nat.{suc, _-_, _<_, _≤_};
 ghost use lib.ListN.{length};
-ghost use Rattle.linear.specs.Substitution.{lessTerm, after, solved};
+ghost use Rattle.substitution.specs.Substitution.{lessTerm, after, solved};
 
 // Subtracts from each row of x after k the term of unknown k. Called as each unknown becomes known,
 // it takes every row's terms in ascending order and runs down a column, as `subtract` does.
