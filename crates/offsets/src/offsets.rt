@@ -1,7 +1,7 @@
 // Where the records of a sheet stand: one OP, then all ND, then all LK.
 ghost use mathlib.Core.Path.{_≡_};
 ghost use Prim.Native.Nat.{_^_, _<_};
-ghost use Rattle.records.specs.Offsets.{nodeOffset, linkOffset};
+ghost use Rattle.offsets.specs.Offsets.{nodeOffset, linkOffset};
 
 // The sizes of the records in bytes, mark included.
 pub const OP_SIZE: usize = 29;

@@ -9,9 +9,9 @@ use lib.ListN.{getD}
 use lib.Pow.{pow-add, pow-pos}
 use Rattle.nearest.specs.Nearest.{units, Nearest}
 use Rattle.nearest.proofs.Units.{mul-pow, pow-mul}
-use Rattle.power.specs.Tables.{tableA, tableB}
-use Rattle.power.proofs.Test.{low-middle, high-middle, aimA, aimB, Between, fieldA, betweenA, fieldB, betweenB}
-use Rattle.power.proofs.Middles.{lower, upper}
+use Rattle.tables.specs.Tables.{tableA, tableB}
+use Rattle.tables.proofs.Test.{low-middle, high-middle, aimA, aimB, Between, fieldA, betweenA, fieldB, betweenB}
+use Rattle.tables.proofs.Middles.{lower, upper}
 
 -- ---- from the numbers of a test to those of `Nearest`, over the power k: x is a sum of two neighbours' units, whose middle v has at the exponent g
 

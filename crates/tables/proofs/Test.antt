@@ -9,8 +9,8 @@ use lib.Dec.{T, eqb, ltb, leb, eqb→eq, ltb→lt, leb→le}
 use lib.ListN.{getD}
 use lib.Ieee.{binary64, nanBits}
 use Rattle.float.proofs.Nans.{no-nan}
-use Rattle.power.specs.Tables.{tableA, tableB}
-use Rattle.power.proofs.Table.{every, at, every-of, pick}
+use Rattle.tables.specs.Tables.{tableA, tableB}
+use Rattle.tables.proofs.Table.{every, at, every-of, pick}
 
 -- four times the significand of a pattern; the middle to the pattern before it is 2 less, or 1 less at a power of two, where those before lie closer; the middle to the one after it is 2 more
 unfoldable pub four : ℕ → ℕ

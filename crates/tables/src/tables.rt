@@ -3,8 +3,8 @@
 // down: a function that indexes a const copies the whole table at each call.
 ghost use mathlib.Core.Path.{_≡_};
 ghost use Prim.Native.Nat.{_<_};
-ghost use Rattle.power.specs.Power.{entryA, entryB};
-ghost use Rattle.power.specs.Tables.{tableA, tableB};
+ghost use Rattle.tables.specs.Entries.{entryA, entryB};
+ghost use Rattle.tables.specs.Tables.{tableA, tableB};
 
 const A: [u64; 1025] = [
     0x3ff0000000000000,

@@ -1,4 +1,4 @@
--- `power::tables::entry_b` meets its contract. Assumes nothing.
+-- `tables::tables::entry_b` meets its contract. Assumes nothing.
 use mathlib.Core.Path.{ap, sym, subst}
 use mathlib.Core.Bool.{not}
 use mathlib.Core.List.{List}
@@ -7,9 +7,9 @@ use lib.Dec.{T}
 use lib.ListN.{getD}
 use lib.Ieee.{binary64, ofBits, nanBits}
 use borrow.Author.Needs.{needs}
-use Rattle.power.proofs.Test.{plainB}
-use Rattle.power.proofs.tables.entry_b.Statement.{statement}
-use Rattle.power.proofs.tables.entry_b.Tie as tie
+use Rattle.tables.proofs.Test.{plainB}
+use Rattle.tables.proofs.tables.entry_b.Statement.{statement}
+use Rattle.tables.proofs.tables.entry_b.Tie as tie
 
 mul-result : tie.Need-mul-result
 mul-result c = search needs
