@@ -1,4 +1,4 @@
-/* Times crate linear against the same algorithm in C on the processor at hand. Each time is the
+/* Times crates linear and substitution against the same algorithm in C on the processor at hand. Each time is the
    median of many runs, each on a matrix of its own, the variants taking turns. */
 #include <math.h>
 #include <stddef.h>
@@ -14,7 +14,7 @@ void linear_bench_substitute(const double *l, size_t l_length, size_t n, double 
 
 enum { STRIDE = 64, SIZE = STRIDE * STRIDE, RUNS = 4001, VARIANTS = 3 };
 
-/* crate float's root, of a finite number above zero: its digits one by one */
+/* crate roots' root, of a finite number above zero: its digits one by one */
 static double digit_root(double x)
 {
     uint64_t p;

@@ -1,4 +1,4 @@
-"""The vectors of crates float and power, and the arithmetic that their answers come from."""
+"""The vectors of crates float, roots and power, and the arithmetic that their answers come from."""
 import math
 import os
 import random
@@ -84,8 +84,8 @@ class Tables(unittest.TestCase):
     def test_code_and_definition(self):
         both = power_tables.table_a() + power_tables.table_b()
         self.assertEqual(len(both), 1025 + 128)
-        self.assertEqual(self.numbers("crates/power/src/tables.rt"), both)
-        self.assertEqual(self.numbers("crates/power/specs/Tables.antt"), both)
+        self.assertEqual(self.numbers("crates/tables/src/tables.rt"), both)
+        self.assertEqual(self.numbers("crates/tables/specs/Tables.antt"), both)
 
 
 if __name__ == "__main__":

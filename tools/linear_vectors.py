@@ -1,5 +1,5 @@
 #!/usr/bin/env python3
-"""Systems for crate linear, with answers from whole numbers (exact.py).
+"""Systems for crates linear and substitution, with answers from whole numbers (exact.py).
 
   linear_vectors.py     writes stdin and stdout of crate linear_vectors
 

@@ -1,5 +1,5 @@
 #!/usr/bin/env python3
-"""Vectors for crates float and power, with answers from whole numbers (exact.py, power_tables.py).
+"""Vectors for crates float, roots and power, with answers from whole numbers (exact.py, power_tables.py).
 
   vectors.py     writes stdin and stdout of crates float_vectors and power_vectors
 """

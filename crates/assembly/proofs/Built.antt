@@ -8,7 +8,6 @@ use native.Mathlib.Omega.{arith}
 use lib.Dec.{eqb}
 use lib.ListN.{length, getD, set}
 use lib.Ieee.{Float, nan}
-use Rattle.float.specs.Bytes.{fromBytes}
 use Rattle.records.specs.Offsets.{nodeOffset, linkOffset}
 use Rattle.records.specs.Records.{shortAt, linkAt}
 use Rattle.records.specs.Codes.{statusOf}

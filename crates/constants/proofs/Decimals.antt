@@ -7,8 +7,8 @@ use Prim.Native.Nat.{ℕ, _+_, _-_, _*_, _^_}
 use lib.Count.{trailingZeros}
 use lib.Dec.{T, ltb, ltb→lt}
 use lib.Ieee.{binary64, odd, size, span, climb, ofBits, ofFields, toBits}
-use Rattle.float.specs.Nearest.{units}
-use Rattle.power.proofs.Table.{both, both-left, both-right}
+use Rattle.nearest.specs.Nearest.{units}
+use Rattle.tables.proofs.Table.{both, both-left, both-right}
 use Rattle.constants.specs.Constants.{Decimal, IsNearest, decimals}
 
 abbrev pattern : Decimal → ℕ

@@ -2,7 +2,7 @@
 use Prim.Native.Nat.{ℕ}
 use mathlib.Core.List.{List, [], _∷_}
 use lib.Ieee.{Float, binary64, ofBits, toBits}
-use Rattle.float.specs.Nearest.{Nearest}
+use Rattle.nearest.specs.Nearest.{Nearest}
 
 abbrev pub qZero : Float
 qZero = ofBits binary64 0x3eb0_c6f7_a0b5_ed8d

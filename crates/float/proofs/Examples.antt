@@ -3,10 +3,9 @@ use mathlib.Core.Path.{_≡_, refl}
 use mathlib.Core.Bool.{true, false}
 use mathlib.Core.List.{[], _∷_}
 use Prim.Native.Nat.{ℕ}
-use lib.Count.{leadingZeros, trailingZeros}
+use lib.Count.{trailingZeros}
 use lib.IntN.{pos, negsuc}
-use lib.Ieee.{Float, nan, inf, fin, binary64, lt, le, eq, mul, round, units, odd, size, span, climb, ofBits, ofFields, toBits, isNan}
-use Rattle.float.specs.Root.{wholeRootIn, wholeRoot, moved, exponent, scaled, rootBits, rootOf}
+use lib.Ieee.{Float, nan, inf, fin, binary64, lt, le, eq, mul, round, units, odd, size, span, climb, ofBits, ofFields, isNan}
 use Rattle.float.specs.Sign.{absOf, signumOf}
 use Rattle.float.specs.Order.{largerOf, smallerOf, clampOf, wildOf}
 use Rattle.float.specs.WholePower.{least, squared, powerIn, wholePower}
@@ -15,11 +14,6 @@ use Rattle.float.specs.Bytes.{littleEndian, fromBytes}
 -- an f64 by its pattern
 abbrev bits : ℕ → Float
 bits p = ofBits binary64 p
-
--- 2.25 gives 1.5; 2 gives 1.4142135623730951; the smallest f64 gives 2 ^ -537; -0.0 gives itself; -1 gives NaN
-roots : (rootOf (bits 0x4002_0000_0000_0000) ≡ bits 0x3ff8_0000_0000_0000) × (rootOf (bits 0x4000_0000_0000_0000) ≡ bits 0x3ff6_a09e_667f_3bcd) × (rootOf (bits 1) ≡ bits 0x1e60_0000_0000_0000) × (rootOf (bits 0x8000_0000_0000_0000) ≡ bits 0x8000_0000_0000_0000) × (rootOf (bits 0xbff0_0000_0000_0000) ≡ nan)
-unfolding rootOf rootBits scaled exponent moved wholeRoot wholeRootIn leadingZeros ofBits ofFields odd trailingZeros toBits size span climb isNan
-roots = (refl, refl, refl, refl, refl)
 
 -- signum of -0.0 is -1, of +0.0 it is 1
 signs : (signumOf (bits 0x8000_0000_0000_0000) ≡ bits 0xbff0_0000_0000_0000) × (signumOf (bits 0) ≡ bits 0x3ff0_0000_0000_0000) × (absOf (bits 0x8000_0000_0000_0000) ≡ bits 0)

@@ -1,10 +1,4 @@
 pub mod Nans
-pub mod Units
-pub mod Roots
-pub mod Digits
-pub mod Normal
-pub mod Cases
-pub mod Meaning
 pub mod Signs
 pub mod ByteLaws
 pub mod PowerLaws

@@ -1,5 +1,3 @@
-pub mod Nearest
-pub mod Root
 pub mod Sign
 pub mod Order
 pub mod WholePower

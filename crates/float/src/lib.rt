@@ -1,10 +1,9 @@
-// What Rust's f64 gives and the port needs, for every f64: signs, order, the whole power, the
-// square root, and an f64 from eight bytes and back.
+// What Rust's f64 gives and the port needs, for every f64: signs, order, the whole power, and an
+// f64 from eight bytes and back. The square root has its own crate, roots.
 mod bytes;
 mod halving;
 mod order;
 mod sign;
-mod square_root;
 
 pub use bytes::from_bytes;
 pub use bytes::pattern;
@@ -16,4 +15,3 @@ pub use order::smaller;
 pub use order::wild;
 pub use sign::abs;
 pub use sign::signum;
-pub use square_root::root;

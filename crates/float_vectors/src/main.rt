@@ -1,6 +1,6 @@
-// Replays vectors over crate float: records of 25 bytes on standard input, a function's number and
-// three numbers of eight bytes, and for each a line with the function's name, its arguments and
-// what it gave, floats as 16 hex digits.
+// Replays vectors over crates float and roots: records of 25 bytes on standard input, a function's
+// number and three numbers of eight bytes, and for each a line with the function's name, its
+// arguments and what it gave, floats as 16 hex digits.
 const OUT: i32 = 1;
 
 fn hex(x: f64) {
@@ -30,7 +30,7 @@ fn answer(record: [u8; 25]) {
     let y = float::from_bytes(&record, 9);
     let z = float::from_bytes(&record, 17);
     match kind {
-        0 => one(b"root", x, float::root(x)),
+        0 => one(b"root", x, roots::root(x)),
         1 => one(b"abs", x, float::abs(x)),
         2 => one(b"signum", x, float::signum(x)),
         3 => two(b"larger", x, y, float::larger(x, y)),

@@ -8,7 +8,7 @@ use native.Mathlib.Numerals.{add-one}
 use lib.ListN.{length}
 use lib.Seq.{getD-set-same}
 use lib.Ieee.{Float, nan, binary64, sub, mul, div}
-use Rattle.float.specs.Root.{rootOf}
+use Rattle.roots.specs.Root.{rootOf}
 use Rattle.linear.specs.declared.factorization.Factored.the-variants.{Done, Stopped}
 use Rattle.linear.specs.Matrix.{at, put, fill}
 use Rattle.linear.specs.Factorization.{above, less, reduced, divided, subtracted, columns}

@@ -1,3 +1,2 @@
 pub mod Matrix
 pub mod Factorization
-pub mod Substitution

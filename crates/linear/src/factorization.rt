@@ -43,7 +43,7 @@ pub fn factor(a: &mut [f64], n: usize) -> Factored
             if c < r {
                 a[64 * c + r] = s / a[64 * c + c];
             } else if 0.0 < s {
-                a[64 * c + c] = float::root(s);
+                a[64 * c + c] = roots::root(s);
             } else {
                 break 'columns c;
             }

@@ -1,9 +1,10 @@
-// Crate linear as C calls it, for bench/linear alone: bench/linear.c lends 4,096 numbers.
+// Crates linear and substitution as C calls them, for bench/linear alone: bench/linear.c lends
+// 4,096 numbers.
 ghost use mathlib.Core.Path.{_≡_};
 ghost use Prim.Native.Nat.{_≤_};
 ghost use lib.ListN.{length};
 ghost use Rattle.linear.specs.Factorization.{factorOf};
-ghost use Rattle.linear.specs.Substitution.{solved};
+ghost use Rattle.substitution.specs.Substitution.{solved};
 ghost use Rattle.linear_bench.specs.Passed.{passed};
 use linear::Factored;
 
@@ -25,5 +26,5 @@ pub extern "C" fn linear_bench_substitute(l: &[f64], n: usize, x: &mut [f64])
     requires { ⌜ (length (now l) ≡ 4096) × ((n ≤ 64) × (n ≤ length (now x))) ⌝ }
     ensures { λ _. ⌜ now (x .exit) ≡ solved (now (l .entry)) n (now (x .entry)) ⌝ }
 {
-    linear::substitute(l, n, x);
+    substitution::substitute(l, n, x);
 }

@@ -1,6 +1,6 @@
-// Replays systems over crate linear. On standard input, for each: a byte n, the lower triangle by
-// columns, the right side. For each it writes n, the triangle as the factorization left it, a line
-// a column, and then X with the solution or S with the unknown at which it stopped.
+// Replays systems over crates linear and substitution. On standard input, for each: a byte n, the
+// lower triangle by columns, the right side. For each it writes n, the triangle as the factorization
+// left it, a line a column, and then X with the solution or S with the unknown at which it stopped.
 ghost use mathlib.Core.Path.{_≡_};
 ghost use Prim.Native.Nat.{_≤_};
 ghost use lib.ListN.{length};
@@ -66,7 +66,7 @@ fn answer(n: usize)
     write_matrix(&a, n);
     match found {
         Factored::Done => {
-            linear::substitute(&a, n, &mut x);
+            substitution::substitute(&a, n, &mut x);
             write_part(b"X", &x, 0, n);
         }
         Factored::Stopped(c) => {

@@ -6,7 +6,7 @@ use types.Run.{OneOf}
 use lib.Ieee.{Float, lt}
 use Rattle.power.specs.Power.{powerOf}
 use Rattle.float.specs.Sign.{absOf, signumOf}
-use Rattle.float.specs.Root.{rootOf}
+use Rattle.roots.specs.Root.{rootOf}
 use Rattle.records.specs.Codes.{statusOf, linkKindOf}
 use Rattle.records.specs.declared.codes.Status.{Status}
 use Rattle.records.specs.declared.codes.LinkKind.{LinkKind}

@@ -2,7 +2,7 @@
 use mathlib.Core.Bool.{Bool, cond}
 use lib.Ieee.{Float, lt}
 use Rattle.float.specs.Sign.{absOf, signumOf}
-use Rattle.float.specs.Root.{rootOf}
+use Rattle.roots.specs.Root.{rootOf}
 use Rattle.float.specs.WholePower.{wholePower}
 use Rattle.power.specs.Power.{powerOf}
 use Rattle.records.specs.declared.codes.Status.{Status}

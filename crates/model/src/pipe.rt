@@ -10,11 +10,11 @@ use constants::H_EXPONENT;
 use constants::Q_ZERO;
 use constants::RQ_TOL;
 use float::abs;
-use float::root;
 use float::signum;
 use float::whole_power;
 use power::power;
 use records::Status;
+use roots::root;
 
 // A head loss and its gradient, for the flow's magnitude.
 pub struct Loss {

@@ -3,7 +3,7 @@ use mathlib.Core.Path.{_≡_, refl}
 use Prim.Native.Nat.{ℕ}
 use lib.Count.{trailingZeros}
 use lib.Ieee.{Float, nan, binary64, neg, add, sub, sum, mul, round, units, odd, size, span, climb, ofInt, ofBits, ofFields, toBits, isNan}
-use Rattle.power.specs.Tables.{tableA, tableB}
+use Rattle.tables.specs.Tables.{tableA, tableB}
 use Rattle.power.specs.Power.{between, powerBits, powerOf}
 
 abbrev bits : ℕ → Float

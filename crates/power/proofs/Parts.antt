@@ -6,9 +6,9 @@ use native.Mathlib.Omega.{arith}
 use lib.Dec.{T}
 use lib.Ieee.{Float, binary64, fits, toBits}
 use lib.Ieee.Exact.{HasValue}
-use Rattle.float.specs.Nearest.{units}
-use Rattle.float.proofs.Units.{units-to}
-use Rattle.float.proofs.Meaning.{plain, number}
+use Rattle.nearest.specs.Nearest.{units}
+use Rattle.nearest.proofs.Units.{units-to}
+use Rattle.nearest.proofs.Values.{plain, number}
 use Rattle.power.specs.Power.{powerOf, between}
 use Rattle.power.specs.Parts.{Split, Steps}
 use Rattle.power.proofs.Part.{exact}

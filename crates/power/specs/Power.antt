@@ -3,16 +3,8 @@ use Prim.Native.Nat.{ℕ, _+_, _-_, _*_, _/_, _%_, _^_}
 use mathlib.Core.Bool.{false, cond}
 use lib.Dec.{eqb, ltb, leb}
 use lib.IntN.{pos}
-use lib.ListN.{getD}
 use lib.Ieee.{Float, nan, inf, binary64, add, sub, mul, ofInt, ofBits, toBits, isNan}
-use Rattle.power.specs.Tables.{tableA, tableB}
-
--- A[i], the power of 1 + i / 1,024; and B[e] at the place 63 - e
-abbrev pub entryA : ℕ → Float
-entryA i = ofBits binary64 (getD tableA i 0)
-
-abbrev pub entryB : ℕ → Float
-entryB j = ofBits binary64 (getD tableB j 0)
+use Rattle.tables.specs.Entries.{entryA, entryB}
 
 -- n / 2 ^ 42
 abbrev pub part : ℕ → Float

@@ -1,6 +1,5 @@
 // Document 01, item 2: x^0.852 by two tables.
 mod recipe;
-mod tables;
 
 pub use recipe::power;
 pub use tables::table_a;

@@ -2,9 +2,9 @@
 ghost use mathlib.Core.Path.{_≡_};
 ghost use Prim.Native.Nat.{_-_, _*_, _/_, _^_, _≤_, _<_};
 ghost use Rattle.power.specs.Power.{powerOf};
-ghost use Rattle.power.specs.Tables.{tableA, tableB};
-use crate::tables::entry_a;
-use crate::tables::entry_b;
+ghost use Rattle.tables.specs.Tables.{tableA, tableB};
+use tables::entry_a;
+use tables::entry_b;
 
 // The place in B of the binary exponent e of a pattern: e signed, negated, and offset by 63.
 fn place(p: u64) -> usize

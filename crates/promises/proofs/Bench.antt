@@ -4,7 +4,7 @@ use lib.Count.{leadingZeros, trailingZeros}
 use lib.Ieee.{lt, eq, neg, add, sum, mul, div, round, units, odd, size, span, climb, ofBits, ofFields, toBits, isNan}
 use Rattle.float.specs.Sign.{absOf}
 use Rattle.float.specs.Order.{largerOf, smallerOf}
-use Rattle.float.specs.Root.{wholeRootIn, wholeRoot, moved, exponent, scaled, rootBits, rootOf}
+use Rattle.roots.specs.Root.{wholeRootIn, wholeRoot, moved, exponent, scaled, rootBits, rootOf}
 use Rattle.model.specs.Link.{noAddition, simpleOf}
 use Rattle.model.specs.Valve.{valveCoefficients}
 use Rattle.damping.specs.Damping.{dampedOf}

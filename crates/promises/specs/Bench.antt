@@ -2,7 +2,7 @@
 use mathlib.Core.Path.{_≡_}
 use mathlib.Core.Bool.{false}
 use lib.Ieee.{Float, nan, inf, neg}
-use Rattle.float.specs.Root.{rootOf}
+use Rattle.roots.specs.Root.{rootOf}
 use Rattle.constants.specs.Arithmetic.{over}
 use Rattle.constants.specs.Constants.{zero, hundredth, fiftieth, tenth, quarter, half, threeQuarters, one, oneAndHalf, twoAndQuarter, three, six, smallValue}
 use Rattle.model.specs.Link.{simpleOf}

@@ -1,6 +1,5 @@
-// The records of the network sheet by value, their codes, and where they stand.
+// The records of the network sheet by value, and their codes. Where they stand, from crate offsets.
 mod codes;
-mod offsets;
 mod records;
 
 pub use codes::LinkKind;

@@ -4,16 +4,12 @@ use mathlib.Core.Bool.{Bool, true, false, not, cond, _&&_}
 use mathlib.Core.List.{List}
 use Prim.Native.Nat.{ℕ, zero, suc, _+_, _-_, _*_, _≤_, _<_}
 use native.Mathlib.Nat.{mul-suc, mul-zero}
-use native.Mathlib.Numerals.{add-one}
 use native.Mathlib.Omega.{arith}
 use lib.Dec.{T, eqb, leb}
 use lib.ListN.{length, getD}
 use borrow.Author.Tests.{le-leb, lt-leb, leb-true, not-true, not-false}
-use Rattle.float.specs.Bytes.{fromBytes}
 use Rattle.sheet.specs.Layout.{readable, runOf}
-use Rattle.sheet.specs.Fields.{within, allWithin}
 use Rattle.sheet.specs.Read.{firstBad}
-use Rattle.sheet.specs.declared.fields.Bounds.{Bounds}
 use Rattle.sheet.specs.declared.layout.Found.{Found}
 use Rattle.sheet.specs.declared.layout.Found.the-variants.{At, Nothing}
 
@@ -63,11 +59,6 @@ run-fits m n size (suc k) s at h = go (readable m n size s at) refl (λ l. run-f
     go : (b : Bool) → readable m n size s at ≡ b → (at + size ≤ length s → at + size + size * runOf m n size k s (at + size) ≤ length s) → at + size * cond {A = ℕ} b (suc (runOf m n size k s (at + size))) 0 ≤ length s
     go true e f = omega (arith, f (fits m n size s at e), mul-suc size (runOf m n size k s (at + size)))
     go false e f = omega (arith, mul-zero size)
-
--- one more float
-pub within-more : (b : Bounds) (i : ℕ) (s : List ℕ) (at : ℕ) (good w : Bool) → good ≡ allWithin b i s at → w ≡ within b (fromBytes s (at + 8 * i)) → (good && w) ≡ allWithin b (i + 1) s at
-unfolding allWithin
-within-more b i s at good w e f = rw (add-one i, e, f)
 
 -- one more turn of a run's count: n are counted
 pub run-turn : (m k size n : ℕ) (s : List ℕ) (at total : ℕ) → n + runOf m k size (length s - n) s at ≡ total → readable m k size s at ≡ true → n < length s → n + 1 + runOf m k size (length s - (n + 1)) s (at + size) ≡ total

@@ -1,5 +1,2 @@
 pub mod Laws
-pub mod Made
 pub mod Readings
-pub mod Accepts
-pub mod Examples

@@ -10,14 +10,14 @@ use borrow.Author.Tests.{le-leb, lt-leb, eq-eqb, ne-eqb, ltb-true}
 use Rattle.records.specs.Offsets.{nodeOffset, linkOffset}
 use Rattle.sheet.specs.Layout.{hasOptions, nodesOf, linksOf, endOf, readable, runOf}
 use Rattle.records.specs.Records.{byteAt, shortAt}
-use Rattle.sheet.specs.Fields.{optionsGood, nodeGood, linkCodes, linkNumbers, linkGood}
-use Rattle.sheet.specs.Ends.{EndsBelow, endsGood}
+use Rattle.fields.specs.Fields.{optionsGood, nodeGood, linkCodes, linkNumbers, linkGood}
+use Rattle.ends.specs.Ends.{EndsBelow, endsGood}
 use Rattle.sheet.specs.Read.{orElse, badNode, badLink, badField, badEnds, checked, counted, readWith}
-use Rattle.sheet.specs.declared.fields.Bounds.{Bounds}
+use Rattle.fields.specs.declared.fields.Bounds.{Bounds}
 use Rattle.sheet.specs.declared.layout.Found.{Found}
 use Rattle.sheet.specs.declared.layout.Found.the-variants.{At, Nothing}
 use Rattle.sheet.specs.declared.reading.Reading.the-variants.{Good, Refused}
-use Rattle.sheet.specs.declared.reading.Refusal.the-variants.{Unreadable, NodeCount, LinkCount, Field, Ends}
+use Rattle.refusals.specs.declared.refusals.Refusal.the-variants.{Unreadable, NodeCount, LinkCount, Field, Ends}
 use Rattle.sheet.proofs.Laws.{all-good, and-left, and-right, fits, run-fits}
 
 linkGood-is : (b : Bounds) (n : ℕ) (s : List ℕ) (at : ℕ) → linkGood b n s at ≡ (linkCodes n s at && linkNumbers b s at)

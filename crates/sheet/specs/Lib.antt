@@ -1,5 +1,3 @@
 pub mod Layout
-pub mod Fields
 pub mod Ends
 pub mod Read
-pub mod Accepted

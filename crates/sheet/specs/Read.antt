@@ -6,30 +6,15 @@ use lib.Dec.{eqb, leb}
 use lib.ListN.{length}
 use Rattle.records.specs.Offsets.{linkOffset}
 use Rattle.sheet.specs.Layout.{hasOptions, nodesOf, linksOf, endOf}
-use Rattle.sheet.specs.Fields.{baseBounds, optionsGood, nodeGood, linkGood}
-use Rattle.sheet.specs.Ends.{endsGood}
-use Rattle.sheet.specs.declared.fields.Bounds.{Bounds}
+use Rattle.fields.specs.Fields.{baseBounds, optionsGood, nodeGood, linkGood}
+use Rattle.ends.specs.Ends.{endsGood}
+use Rattle.fields.specs.declared.fields.Bounds.{Bounds}
 use Rattle.sheet.specs.declared.layout.Found.{Found}
 use Rattle.sheet.specs.declared.layout.Found.the-variants.{At, Nothing}
-use Rattle.sheet.specs.declared.reading.Refusal.{Refusal}
-use Rattle.sheet.specs.declared.reading.Refusal.the-variants.{Unreadable, NodeCount, LinkCount, Field, Ends}
+use Rattle.refusals.specs.declared.refusals.Refusal.{Refusal}
+use Rattle.refusals.specs.declared.refusals.Refusal.the-variants.{Unreadable, NodeCount, LinkCount, Field, Ends}
 use Rattle.sheet.specs.declared.reading.Reading.{Reading}
 use Rattle.sheet.specs.declared.reading.Reading.the-variants.{Good, Refused}
-
--- document 01's number and place of a refusal
-unfoldable pub numberOf : Refusal → ℕ
-numberOf (Unreadable at) = 1
-numberOf NodeCount = 2
-numberOf LinkCount = 2
-numberOf (Field at) = 3
-numberOf (Ends at) = 4
-
-unfoldable pub placeOf : Refusal → ℕ
-placeOf (Unreadable at) = at
-placeOf NodeCount = 0
-placeOf LinkCount = 1
-placeOf (Field at) = at
-placeOf (Ends at) = at
 
 -- what the first of two searches found, else what the second did
 abbrev pub orElse : Found → Found → Found

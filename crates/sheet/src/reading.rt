@@ -3,22 +3,23 @@ ghost use mathlib.Core.Path.{_≡_};
 ghost use Prim.Native.Nat.{_≤_};
 ghost use lib.ListN.{length};
 ghost use Rattle.records.specs.Offsets.{nodeOffset, linkOffset};
-ghost use Rattle.sheet.specs.Ends.{EndsBelow};
-ghost use Rattle.sheet.specs.Read.{numberOf, placeOf, badNode, badLink, badField, badEnds, checked, counted, readWith, readOf};
-use crate::ends::ends_good;
-use crate::fields::Bounds;
-use crate::fields::base_bounds;
-use crate::fields::link_good;
-use crate::fields::node_good;
-use crate::fields::options_good;
+ghost use Rattle.ends.specs.Ends.{EndsBelow};
+ghost use Rattle.sheet.specs.Read.{badNode, badLink, badField, badEnds, checked, counted, readWith, readOf};
 use crate::layout::Found;
 use crate::layout::is_record;
 use crate::layout::run;
+use ends::ends_good;
+use fields::Bounds;
+use fields::base_bounds;
+use fields::link_good;
+use fields::node_good;
+use fields::options_good;
 use records::LK_SIZE;
 use records::ND_SIZE;
 use records::OP_SIZE;
 use records::link_offset;
 use records::node_offset;
+use refusals::Refusal;
 
 // The counts of a sheet that can be read.
 pub struct Net {
@@ -26,44 +27,10 @@ pub struct Net {
     pub links: usize,
 }
 
-// Why a sheet is refused, with the offset of the record at fault.
-pub enum Refusal {
-    Unreadable(usize),
-    NodeCount,
-    LinkCount,
-    Field(usize),
-    Ends(usize),
-}
-
+// The counts, or why the sheet is refused.
 pub enum Reading {
     Good(Net),
     Refused(Refusal),
-}
-
-// Document 01's number of a refusal.
-pub fn refusal_number(refusal: Refusal) -> usize
-    ensures { λ r. ⌜ r ≡ numberOf refusal ⌝ }
-{
-    match refusal {
-        Refusal::Unreadable(_) => 1,
-        Refusal::NodeCount => 2,
-        Refusal::LinkCount => 2,
-        Refusal::Field(_) => 3,
-        Refusal::Ends(_) => 4,
-    }
-}
-
-// Its place: a byte offset, or which count is wrong.
-pub fn refusal_place(refusal: Refusal) -> usize
-    ensures { λ r. ⌜ r ≡ placeOf refusal ⌝ }
-{
-    match refusal {
-        Refusal::Unreadable(at) => at,
-        Refusal::NodeCount => 0,
-        Refusal::LinkCount => 1,
-        Refusal::Field(at) => at,
-        Refusal::Ends(at) => at,
-    }
 }
 
 // The first node with a field outside its bounds.

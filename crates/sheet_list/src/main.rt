@@ -18,8 +18,8 @@ fn show(reading: sheet::Reading) {
         sheet::Reading::Good(net) => line(b"G ", net.nodes, net.links),
         sheet::Reading::Refused(refusal) => line(
             b"R ",
-            sheet::refusal_number(refusal),
-            sheet::refusal_place(refusal),
+            refusals::refusal_number(refusal),
+            refusals::refusal_place(refusal),
         ),
     }
 }

@@ -4,7 +4,7 @@ use Prim.Native.Nat.{ℕ, _+_, _-_, _≤_, _<_}
 use native.Mathlib.Omega.{arith}
 use Rattle.records.specs.Offsets.{linkOffset}
 use Rattle.records.specs.Records.{shortAt}
-use Rattle.sheet.specs.Ends.{endsGood}
+use Rattle.ends.specs.Ends.{endsGood}
 use Rattle.sheet.specs.Read.{firstBad, badEnds}
 use Rattle.sheet.proofs.Laws.{search-end, search-bad, search-on}
 use Rattle.sheet.proofs.reading.bad_ends.Statement.{statement}

@@ -3,7 +3,7 @@ use mathlib.Core.Path.{_≡_, ap}
 use Prim.Native.Nat.{ℕ, _-_, _≤_}
 use native.Mathlib.Omega.{arith}
 use Rattle.records.specs.Offsets.{linkOffset}
-use Rattle.sheet.specs.Fields.{linkGood}
+use Rattle.fields.specs.Fields.{linkGood}
 use Rattle.sheet.specs.Read.{firstBad, badLink}
 use Rattle.sheet.proofs.Laws.{search-end, search-bad, search-on}
 use Rattle.sheet.proofs.reading.bad_link.Statement.{statement}

@@ -1,7 +1,7 @@
 -- `sheet::reading::read` meets its contract. Assumes nothing.
 use mathlib.Core.Path.{ap, _∙_}
 use borrow.Author.Needs.{needs}
-use Rattle.sheet.specs.declared.fields.Bounds.{Bounds}
+use Rattle.fields.specs.declared.fields.Bounds.{Bounds}
 use Rattle.sheet.specs.Read.{readWith, readOf}
 use Rattle.sheet.proofs.reading.read.Statement.{statement}
 use Rattle.sheet.proofs.reading.read.Tie as tie

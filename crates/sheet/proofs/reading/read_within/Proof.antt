@@ -7,7 +7,7 @@ use borrow.Author.Tests.{not-true, not-false}
 use Rattle.sheet.specs.Layout.{nodesOf}
 use Rattle.sheet.specs.Read.{counted}
 use Rattle.sheet.specs.declared.reading.Reading.the-variants.{Refused}
-use Rattle.sheet.specs.declared.reading.Refusal.the-variants.{Unreadable}
+use Rattle.refusals.specs.declared.refusals.Refusal.the-variants.{Unreadable}
 use Rattle.sheet.proofs.Readings.{laid, nodes-inside, options-are, options-fit, no-options, broken, whole}
 use Rattle.sheet.proofs.reading.read_within.Statement.{statement}
 use Rattle.sheet.proofs.reading.read_within.Tie as tie

@@ -1,0 +1,67 @@
+-- Worked examples: the definitions compute, on document 01's sheet of 119 bytes, on an empty sheet, and on one of each refusal. Assumes nothing.
+use mathlib.Core.Path.{_≡_, refl}
+use mathlib.Core.List.{List, [], _∷_, _++_}
+use Prim.Native.Nat.{ℕ}
+use lib.Count.{trailingZeros}
+use lib.ListN.{replicate}
+use lib.Ieee.{lt, le, eq, ofBits, ofFields, odd}
+use Rattle.float.specs.Sign.{absOf}
+use Rattle.float.specs.Bytes.{littleEndian, fromBytes}
+use Rattle.records.specs.Codes.{linkCode}
+use Rattle.sheet.specs.Layout.{readable, runOf, hasOptions, nodesOf, linksOf, endOf}
+use Rattle.records.specs.Records.{shortAt}
+use Rattle.fields.specs.Fields.{baseBounds, within, allWithin, optionsGood, nodeGood, linkCodes, linkNumbers, linkGood}
+use Rattle.ends.specs.Ends.{inService, endsGood}
+use Rattle.sheet.specs.Read.{firstBad, badEnds, badLink, badNode, badField, checked, counted, readWith, readOf}
+use Rattle.fields.specs.declared.fields.Bounds.{Bounds}
+use Rattle.sheet.specs.declared.reading.Reading.the-variants.{Good, Refused}
+use Rattle.refusals.specs.declared.refusals.Refusal.the-variants.{Unreadable, NodeCount, LinkCount, Field, Ends}
+
+-- ---- sheets
+
+zeros : ℕ → List ℕ
+zeros n = replicate n 0
+
+-- accuracy 0.001 and so many trials; a reservoir with head 100; a junction at elevation 5
+op : ℕ → List ℕ
+op trials = 79 ∷ 80 ∷ 252 ∷ 169 ∷ 241 ∷ 210 ∷ 77 ∷ 98 ∷ 80 ∷ 63 ∷ (zeros 16 ++ (trials ∷ 0 ∷ 0 ∷ []))
+
+reservoir : List ℕ
+reservoir = 78 ∷ 68 ∷ 1 ∷ 0 ∷ (zeros 16 ++ (0 ∷ 0 ∷ 0 ∷ 0 ∷ 0 ∷ 0 ∷ 89 ∷ 64 ∷ zeros 17))
+
+junction : List ℕ
+junction = 78 ∷ 68 ∷ 0 ∷ 0 ∷ 0 ∷ 0 ∷ 0 ∷ 0 ∷ 0 ∷ 0 ∷ 20 ∷ 64 ∷ zeros 33
+
+-- a link of a kind from a node to another, Active, of diameter 1
+link : ℕ → ℕ → ℕ → List ℕ
+link kind start end = 76 ∷ 75 ∷ kind ∷ 0 ∷ 2 ∷ start ∷ 0 ∷ end ∷ 0 ∷ (zeros 16 ++ (0 ∷ 0 ∷ 0 ∷ 0 ∷ 0 ∷ 0 ∷ 240 ∷ 63 ∷ zeros 16))
+
+document : List ℕ
+document = op 40 ++ (reservoir ++ junction)
+
+read-document : readOf document ≡ Good (record { nodes = 2; links = 0 })
+unfolding document op reservoir junction zeros readOf readWith hasOptions nodesOf linksOf endOf runOf readable counted checked badField badNode badLink badEnds firstBad baseBounds optionsGood nodeGood allWithin within shortAt littleEndian fromBytes absOf lt le eq ofBits ofFields odd trailingZeros
+read-document = refl
+
+-- nothing at all; a cut record; an unknown mark; no node
+unreadable : (readOf [] ≡ Refused (Unreadable 0)) × (readOf (op 40 ++ (78 ∷ 68 ∷ [])) ≡ Refused (Unreadable 29)) × (readOf (op 40 ++ (reservoir ++ (88 ∷ zeros 60))) ≡ Refused (Unreadable 74)) × (readOf (op 40) ≡ Refused NodeCount)
+unfolding op reservoir zeros readOf readWith hasOptions nodesOf linksOf endOf runOf readable counted baseBounds
+unreadable = (refl, refl, refl, refl)
+
+-- 201 trials; a link to a node that is not there
+out-of-bounds : (readOf (op 201 ++ reservoir) ≡ Refused (Field 0)) × (readOf (document ++ link 0 0 2) ≡ Refused (Field 119))
+unfolding document op reservoir junction link zeros readOf readWith hasOptions nodesOf linksOf endOf runOf readable counted checked badField badNode badLink firstBad baseBounds optionsGood nodeGood linkGood linkCodes linkNumbers allWithin within shortAt littleEndian fromBytes absOf lt le eq ofBits ofFields odd trailingZeros
+out-of-bounds = (refl, refl)
+
+-- a pipe from a node to itself; a PRV that ends at the reservoir; one that ends at the junction is read
+ends : (readOf (document ++ link 0 1 1) ≡ Refused (Ends 119)) × (readOf (document ++ link 1 1 0) ≡ Refused (Ends 119)) × (readOf (document ++ link 1 0 1) ≡ Good (record { nodes = 2; links = 1 }))
+unfolding document op reservoir junction link zeros readOf readWith hasOptions nodesOf linksOf endOf runOf readable counted checked badField badNode badLink badEnds firstBad baseBounds optionsGood nodeGood linkGood linkCodes linkNumbers endsGood inService allWithin within shortAt littleEndian fromBytes absOf lt le eq ofBits ofFields odd trailingZeros
+ends = (refl, refl, refl)
+
+-- a link where none is allowed: 2 at 1
+few : Bounds
+few = record { nodes = 64; links = 0; trials = 200; unit = 10; magnitude = baseBounds .magnitude; diameter = baseBounds .diameter }
+
+too-many-links : readWith few (document ++ link 0 0 1) ≡ Refused LinkCount
+unfolding few document op reservoir junction link zeros readWith hasOptions nodesOf linksOf endOf runOf readable counted
+too-many-links = refl

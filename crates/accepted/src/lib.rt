@@ -1,0 +1,1 @@
+// No code: what an accepted sheet is stands in specs/, the theorems in proofs/.

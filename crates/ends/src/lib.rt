@@ -1,0 +1,5 @@
+// What the ends of a link may be.
+mod ends;
+
+pub use ends::ends_good;
+pub use ends::in_service;

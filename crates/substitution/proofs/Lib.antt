@@ -1,0 +1,3 @@
+pub mod SubstituteTurns
+pub mod Laws
+pub mod Examples

@@ -1,0 +1,4 @@
+pub mod Table
+pub mod Test
+pub mod Middles
+pub mod Entries
