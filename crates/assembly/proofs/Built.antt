@@ -20,14 +20,10 @@ use Rattle.model.specs.declared.link.Coefficients.{Coefficients}
 use Rattle.columns.specs.Columns.{cleared}
 use Rattle.nodes.specs.Fields.{enabled, fixedNode, elevationOf}
 use Rattle.nodes.specs.Numbering.{rowAt}
-use Rattle.scatter.specs.Scatter.{RowBelow, onDiagonal, offRow, linkMatrix, linkRow}
+use Rattle.scatter.specs.Scatter.{onDiagonal, offRow, linkMatrix, linkRow}
 use Rattle.assembly.specs.Assembly.{System, system, Given, Sized, Columns, coefficientsAt, linkIn, linkOf, linksOf, demandsOf, groundOf, groundedOf, assembleOf}
-use Rattle.nodes.proofs.Rows.{row-most}
 use Rattle.nodes.specs.declared.numbering.Row.{Row}
 use Rattle.nodes.specs.declared.numbering.Row.the-variants.{Unknown, Fixed}
-
-pub row-below : (s : List ℕ) (i n : ℕ) (row : Row) → row ≡ rowAt s i → i < n → n ≤ 64 → RowBelow 64 row
-row-below s i n row h l f = record { below = λ w k. let e : w .0 ≤ i = row-most s i w (sym h ∙ k) in omega (arith, e) }
 
 -- ---- one link
 

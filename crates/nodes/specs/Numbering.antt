@@ -1,10 +1,11 @@
 -- Document 01, item 6: junctions in service are numbered as unknowns in node order. Definitions only.
 use Prim.Native.Nat.{ℕ, zero, suc, _<_}
 use mathlib.Core.Path.{_≡_}
-use mathlib.Core.Bool.{cond}
+use mathlib.Core.Bool.{cond, _&&_}
 use mathlib.Core.List.{List}
 use lib.Dec.{eqb}
 use lib.ListN.{getD, set}
+use Rattle.linear.specs.declared.factorization.UnknownIndex.{UnknownIndex}
 use Rattle.sheet.specs.Ends.{inService}
 use Rattle.nodes.specs.declared.numbering.NodeIndex.{NodeIndex}
 use Rattle.nodes.specs.declared.numbering.Row.{Row}
@@ -47,3 +48,17 @@ rowAt s i = cond (inService s i) (Unknown (record { 0 = before s i })) Fixed
 -- a column of numbers says the row of each of n nodes
 pub record RowsRight (n : ℕ) (s unknowns : List ℕ) : Type 0 where
   pub right : (i : ℕ) → i < n → rowOf unknowns i ≡ rowAt s i
+
+-- the node of unknown u, of the first n nodes: the junction in service that has u before it
+unfoldable pub nodeNumbered : List ℕ → ℕ → ℕ → ℕ
+unfolding before
+nodeNumbered s zero u = 0
+nodeNumbered s (suc i) u = cond {A = ℕ} (inService s i && eqb (before s i) u) i (nodeNumbered s i u)
+
+-- a column says the node of each unknown of n nodes
+pub record NodesRight (n : ℕ) (s back : List ℕ) : Type 0 where
+  pub right : (u : ℕ) → u < before s n → nodeOf back u ≡ record { 0 = nodeNumbered s n u }
+
+-- a row is one of the first n
+pub record RowBelow (n : ℕ) (row : Row) : Type 0 where
+  pub below : (u : UnknownIndex) → row ≡ Unknown u → u .0 < n

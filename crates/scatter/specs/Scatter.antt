@@ -1,21 +1,15 @@
 -- Document 01, item 6: what one link adds to the matrix and to the right side, in the Rust's order. Definitions only.
-use Prim.Native.Nat.{ℕ, _+_, _*_, _<_}
-use mathlib.Core.Path.{_≡_}
+use Prim.Native.Nat.{ℕ, _+_, _*_}
 use mathlib.Core.Bool.{Bool, cond}
 use mathlib.Core.List.{List}
 use lib.Dec.{ltb}
 use lib.Ieee.{Float}
-use Rattle.linear.specs.declared.factorization.UnknownIndex.{UnknownIndex}
 use Rattle.constants.specs.Arithmetic.{minus, times}
 use Rattle.model.specs.declared.link.Coefficients.{Coefficients}
 use Rattle.model.specs.declared.link.NodeAddition.{NodeAddition}
 use Rattle.columns.specs.Columns.{addTo, takeFrom}
 use Rattle.nodes.specs.declared.numbering.Row.{Row}
 use Rattle.nodes.specs.declared.numbering.Row.the-variants.{Unknown, Fixed}
-
--- a row is one of the first n
-pub record RowBelow (n : ℕ) (row : Row) : Type 0 where
-  pub below : (u : UnknownIndex) → row ≡ Unknown u → u .0 < n
 
 -- x added to, and taken from, a row of the right side; a node that is no unknown has none
 unfoldable pub onRow : Row → Float → List Float → List Float

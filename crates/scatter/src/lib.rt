@@ -2,7 +2,8 @@
 ghost use mathlib.Core.Path.{_≡_};
 ghost use Prim.Native.Nat.{_≤_};
 ghost use lib.ListN.{length};
-ghost use Rattle.scatter.specs.Scatter.{RowBelow, onRow, offRow, onDiagonal, offBetween, givenDiagonal, givenRow, fixedTerm, linkMatrix, linkRow};
+ghost use Rattle.nodes.specs.Numbering.{RowBelow};
+ghost use Rattle.scatter.specs.Scatter.{onRow, offRow, onDiagonal, offBetween, givenDiagonal, givenRow, fixedTerm, linkMatrix, linkRow};
 use columns::add_to;
 use columns::take_from;
 use model::Coefficients;

@@ -1,5 +1,6 @@
 -- `assembly::building::add_grounded` meets its contract. Assumes nothing.
-use Rattle.assembly.proofs.Built.{row-below, grounded-none, grounded-next}
+use Rattle.nodes.proofs.Rows.{row-below}
+use Rattle.assembly.proofs.Built.{grounded-none, grounded-next}
 use Rattle.assembly.specs.Assembly.{groundedOf}
 use native.Mathlib.Omega.{arith}
 use Prim.Native.Nat.{ℕ, _-_, _≤_}

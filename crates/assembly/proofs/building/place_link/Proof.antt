@@ -1,5 +1,6 @@
 -- `assembly::building::place_link` meets its contract. Assumes nothing.
-use Rattle.assembly.proofs.Built.{row-below, placed}
+use Rattle.nodes.proofs.Rows.{row-below}
+use Rattle.assembly.proofs.Built.{placed}
 use borrow.Author.Needs.{needs}
 use mathlib.Core.Path.{_∙_}
 use Rattle.assembly.proofs.building.place_link.Statement.{statement}

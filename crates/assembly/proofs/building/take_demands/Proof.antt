@@ -1,5 +1,6 @@
 -- `assembly::building::take_demands` meets its contract. Assumes nothing.
-use Rattle.assembly.proofs.Built.{row-below, demands-from, demands-on}
+use Rattle.nodes.proofs.Rows.{row-below}
+use Rattle.assembly.proofs.Built.{demands-from, demands-on}
 use Rattle.assembly.specs.Assembly.{demandsOf}
 use native.Mathlib.Omega.{arith}
 use Prim.Native.Nat.{ℕ, _-_, _≤_}

@@ -1,0 +1,2 @@
+-- The specs of `balance`.
+pub mod Balance

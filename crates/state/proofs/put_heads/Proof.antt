@@ -1,0 +1,62 @@
+-- `state::put_heads` meets its contract. Assumes nothing.
+use Rattle.nodes.proofs.Rows.{row-below}
+use Rattle.state.specs.State.{solvedHeads}
+use Rattle.state.proofs.Turns.{no-heads, next-head}
+use Rattle.state.proofs.Kept.{head-long}
+use native.Mathlib.Omega.{arith}
+use Prim.Native.Nat.{ℕ, _-_, _≤_}
+use mathlib.Core.Path.{_≡_, refl, ap, _∙_}
+use lib.ListN.{length}
+use Rattle.state.proofs.put_heads.Statement.{statement}
+use Rattle.state.proofs.put_heads.Tie as tie
+
+abbrev Inv-loop : tie.InvT-loop
+Inv-loop sheet nodes unknowns x heads₀ i₀ heads i = (i ≤ nodes) × (heads ≡ solvedHeads sheet x i heads₀) × (length heads ≡ length heads₀)
+
+abbrev μ-loop : tie.MeasureT-loop
+μ-loop sheet nodes unknowns x heads₀ i₀ heads i = nodes - i
+
+loop-holds : tie.Need-loop-holds Inv-loop μ-loop
+loop-holds c = (omega arith, no-heads _ _ _, refl)
+
+put-head-requires : tie.Need-put-head-requires Inv-loop μ-loop
+put-head-requires c κs =
+    let u = c .before in
+    let t = u .before in
+    let l = t .before in
+    let s = l .before .before .before .before .before in
+    ((omega arith, omega arith), row-below (s .args .sheet .now) (l .loop .i) (s .args .nodes) _ (u .unknown-of .ensures ∙ s .pre .1 .right (l .loop .i) (t .loop-test .taken)) (t .loop-test .taken) (omega arith))
+
+loop-again : tie.Need-loop-again Inv-loop μ-loop
+loop-again c =
+    let p = c .before .before in
+    let u = p .before .before in
+    let t = u .before in
+    let l = t .before in
+    let s = l .before .before .before .before .before in
+    (omega arith, next-head _ _ _ _ _ _ _ (u .unknown-of .ensures ∙ s .pre .1 .right (l .loop .i) (t .loop-test .taken)) (l .loop .inv .1) (p .put-head .ensures), ap length (p .put-head .ensures) ∙ head-long _ _ _ _ ∙ l .loop .inv .2)
+
+same-length : tie.Need-same-length Inv-loop μ-loop
+same-length c = c .before .loop .inv .2
+
+returns : tie.Need-returns Inv-loop μ-loop
+returns c =
+    let l = c .before in
+    let a = l .before .before .before .before .before .args in
+    let e : l .loop .i ≡ a .nodes = omega arith in
+    l .loop .inv .1 ∙ ap (λ (k : ℕ). solvedHeads (a .sheet .now) (a .x .now) k (a .heads .now)) e
+
+pub put-heads-spec : {M : Type 1} → statement M
+put-heads-spec =
+    tie.close
+    (tie.spec
+    Inv-loop
+    μ-loop
+    loop-holds
+    (λ c κs. omega arith)
+    put-head-requires
+    (λ c. omega arith)
+    (λ c. omega arith)
+    loop-again
+    same-length
+    returns)

@@ -1,0 +1,123 @@
+-- The links at tanks: what each function makes, and one turn of each loop, as laws of the definitions. Assumes nothing.
+use mathlib.Core.Path.{_≡_, refl, sym, _∙_}
+use mathlib.Core.Bool.{Bool, true, false, not, _&&_, _||_}
+use mathlib.Core.List.{List}
+use Prim.Native.Nat.{ℕ, zero, _+_, _≤_, _<_}
+use native.Mathlib.Numerals.{add-one}
+use native.Mathlib.Omega.{arith}
+use borrow.Author.Tests.{eq-eqb, ne-eqb}
+use lib.Dec.{eqb}
+use lib.ListN.{length, getD, set}
+use lib.Ieee.{Float, nan, lt, le}
+use Rattle.records.specs.Offsets.{nodeOffset, linkOffset}
+use Rattle.records.specs.Records.{shortAt, nodeAt}
+use Rattle.records.specs.declared.records.Node.{Node}
+use Rattle.constants.specs.Arithmetic.{plus}
+use Rattle.constants.specs.Constants as constant
+use Rattle.columns.specs.Columns.{addTo, takeFrom}
+use Rattle.tanks.specs.Tanks.{Tanks, tanks, tankAt, fullAt, emptyAt, shut, linksTo, linksFrom, tankUpdate, tankUpdates, tankLinksOf}
+
+-- ---- one node
+
+module _ (s : List ℕ) (i at : ℕ) (here : at ≡ nodeOffset i) where
+  pub tank-of : eqb (getD s (at + 2) 0) 2 ≡ tankAt s i
+  unfolding tankAt
+  tank-of = rw here
+
+  pub full-of : (m : Node) (head : Float) → m ≡ nodeAt s at → (le (plus (m .elevation) (m .highest)) head && not (m .overflow)) ≡ fullAt s i head
+  unfolding fullAt
+  full-of m head read = rw (read, here)
+
+  pub empty-of : (m : Node) (head : Float) → m ≡ nodeAt s at → le head (plus (m .elevation) (m .lowest)) ≡ emptyAt s i head
+  unfolding emptyAt
+  empty-of m head read = rw (read, here)
+
+-- ---- one link
+
+module _ (above below : Bool) (q : Float) (j : ℕ) (codes : List ℕ) where
+  pub shut-on : ((above && lt constant.zero q) || (below && lt q constant.zero)) ≡ true → set codes j 3 ≡ shut above below q j codes
+  unfolding shut
+  shut-on h = rw h
+
+  pub shut-off : ((above && lt constant.zero q) || (below && lt q constant.zero)) ≡ false → codes ≡ shut above below q j codes
+  unfolding shut
+  shut-off h = rw h
+
+-- ---- the loops
+
+-- a loop over k, of which j are done, with the columns as they are and as they were
+pub record Reached (k : ℕ) (done : ℕ → Tanks → Tanks) (d₀ : List Float) (t₀ : List ℕ) (d : List Float) (t : List ℕ) (j : ℕ) : Type 0 where
+  pub upto : j ≤ k
+  pub made : tanks d t ≡ done j (tanks d₀ t₀)
+  pub d-long : length d ≡ length d₀
+  pub t-long : length t ≡ length t₀
+
+pub next : {k : ℕ} {done : ℕ → Tanks → Tanks} {d₀ d d₁ : List Float} {t₀ t t₁ : List ℕ} {j : ℕ} → Reached k done d₀ t₀ d t j → j < k
+    → tanks d₁ t₁ ≡ done (j + 1) (tanks d₀ t₀) → length d₁ ≡ length d → length t₁ ≡ length t → Reached k done d₀ t₀ d₁ t₁ (j + 1)
+next v l e a b = record { upto = omega arith; made = e; d-long = a ∙ v .d-long; t-long = b ∙ v .t-long }
+
+module _ (s : List ℕ) (n i : ℕ) (q : List Float) (full empty : Bool) where
+  pub to-none : (t : Tanks) → t ≡ linksTo s n i q full empty 0 t
+  unfolding linksTo
+  to-none t = refl
+
+  pub from-none : (t : Tanks) → t ≡ linksFrom s n i q full empty 0 t
+  unfolding linksFrom
+  from-none t = refl
+
+module _ (s : List ℕ) (n i : ℕ) (q : List Float) (full empty : Bool) (j : ℕ) (t₀ : Tanks) (d : List Float) (t : List ℕ) (at end : ℕ) (here : at ≡ linkOffset n j) where
+  pub to-here : (d₁ : List Float) (t₁ : List ℕ) → tanks d t ≡ linksTo s n i q full empty j t₀ → end ≡ shortAt s (at + 7) → end ≡ i
+      → d₁ ≡ addTo d i (getD q j nan) → t₁ ≡ shut full empty (getD q j nan) j t → tanks d₁ t₁ ≡ linksTo s n i q full empty (j + 1) t₀
+  unfolding linksTo
+  to-here d₁ t₁ h read e a b =
+      let y : eqb (shortAt s (linkOffset n j + 7)) i ≡ true = rw (← here, ← read) (eq-eqb end i e) in
+      rw (add-one j, y, ← h, a, b)
+
+  pub to-other : (d₁ : List Float) (t₁ : List ℕ) → tanks d t ≡ linksTo s n i q full empty j t₀ → end ≡ shortAt s (at + 7) → (end ≡ i → ⊥)
+      → d₁ ≡ d → t₁ ≡ t → tanks d₁ t₁ ≡ linksTo s n i q full empty (j + 1) t₀
+  unfolding linksTo
+  to-other d₁ t₁ h read e a b =
+      let y : eqb (shortAt s (linkOffset n j + 7)) i ≡ false = rw (← here, ← read) (ne-eqb end i e) in
+      rw (add-one j, y, a, b) h
+
+  pub from-here : (d₁ : List Float) (t₁ : List ℕ) → tanks d t ≡ linksFrom s n i q full empty j t₀ → end ≡ shortAt s (at + 5) → end ≡ i
+      → d₁ ≡ takeFrom d i (getD q j nan) → t₁ ≡ shut empty full (getD q j nan) j t → tanks d₁ t₁ ≡ linksFrom s n i q full empty (j + 1) t₀
+  unfolding linksFrom
+  from-here d₁ t₁ h read e a b =
+      let y : eqb (shortAt s (linkOffset n j + 5)) i ≡ true = rw (← here, ← read) (eq-eqb end i e) in
+      rw (add-one j, y, ← h, a, b)
+
+  pub from-other : (d₁ : List Float) (t₁ : List ℕ) → tanks d t ≡ linksFrom s n i q full empty j t₀ → end ≡ shortAt s (at + 5) → (end ≡ i → ⊥)
+      → d₁ ≡ d → t₁ ≡ t → tanks d₁ t₁ ≡ linksFrom s n i q full empty (j + 1) t₀
+  unfolding linksFrom
+  from-other d₁ t₁ h read e a b =
+      let y : eqb (shortAt s (linkOffset n j + 5)) i ≡ false = rw (← here, ← read) (ne-eqb end i e) in
+      rw (add-one j, y, a, b) h
+
+-- ---- one tank, and all
+
+pub tank-made : (s : List ℕ) (n k : ℕ) (head : Float) (q : List Float) (i : ℕ) (full empty : Bool) (d d₁ d₂ : List Float) (t t₁ t₂ : List ℕ)
+    → full ≡ fullAt s i head → empty ≡ emptyAt s i head
+    → tanks d₁ t₁ ≡ linksTo s n i q full empty k (tanks (set d i constant.zero) t)
+    → tanks d₂ t₂ ≡ linksFrom s n i q full empty k (tanks d₁ t₁)
+    → tanks d₂ t₂ ≡ tankUpdate s n k head q i (tanks d t)
+unfolding tankUpdate
+tank-made s n k head q i full empty d d₁ d₂ t t₁ t₂ f e a b = rw (b, a, f, e)
+
+module _ (s : List ℕ) (n k : ℕ) (h q : List Float) where
+  pub tanks-none : (t : Tanks) → t ≡ tankUpdates s n k h q 0 t
+  unfolding tankUpdates
+  tanks-none t = refl
+
+  pub tanks-here : (i : ℕ) (t₀ t : Tanks) (d d₁ : List Float) (c c₁ : List ℕ) (b : Bool) → t ≡ tankUpdates s n k h q i t₀ → b ≡ tankAt s i → b ≡ true
+      → tanks d c ≡ tankUpdate s n k (getD h i nan) q i t → d₁ ≡ d → c₁ ≡ c → tanks d₁ c₁ ≡ tankUpdates s n k h q (i + 1) t₀
+  unfolding tankUpdates
+  tanks-here i t₀ t d d₁ c c₁ b e a y p r w = rw (add-one i, sym a ∙ y, ← e, r, w) p
+
+  pub tanks-other : (i : ℕ) (t₀ : Tanks) (d d₁ : List Float) (t t₁ : List ℕ) (b : Bool) → tanks d t ≡ tankUpdates s n k h q i t₀ → b ≡ tankAt s i → b ≡ false → d₁ ≡ d → t₁ ≡ t → tanks d₁ t₁ ≡ tankUpdates s n k h q (i + 1) t₀
+  unfolding tankUpdates
+  tanks-other i t₀ d d₁ t t₁ b e a y p r = rw (add-one i, sym a ∙ y, p, r) e
+
+  pub tanks-all : (d : List Float) (c : List ℕ) (i : ℕ) (t : Tanks) → t ≡ tankUpdates s n k h q i (tanks d c) → i ≡ n → t ≡ tankLinksOf s n k h q d c
+  unfolding tankLinksOf
+  tanks-all d c i t e y = rw (e, y)

@@ -1,0 +1,2 @@
+-- The specs of `tanks`.
+pub mod Tanks

@@ -1,0 +1,2 @@
+-- The specs of `update`.
+pub mod Update
