@@ -1,0 +1,65 @@
+-- The trial record: an entry a trial, four bytes each; what the answer counts of it; and what follows an entry. Definitions only.
+use Prim.Native.Nat.{ℕ, suc, _+_, _*_, _/_, _%_}
+use mathlib.Core.List.{List, [], _∷_}
+use lib.ListN.{set}
+use lib.Ieee.{inf}
+use mathlib.Core.Bool.{false}
+use Rattle.constants.specs.Constants as constant
+use Rattle.repair.specs.declared.Damping.{Damping}
+use Rattle.repair.specs.declared.Entry.{Entry}
+use Rattle.repair.specs.declared.Entry.the-variants.{Freed, Grounded, Singular, Wild, Stepped, Converged}
+use Rattle.entries.specs.declared.Ended.{Ended}
+use Rattle.entries.specs.declared.Ended.the-variants.{Balanced, Failed, Strayed, Limit}
+use Rattle.entries.specs.declared.Going.{Going}
+use Rattle.entries.specs.declared.Going.the-variants.{On, Over}
+use Rattle.entries.specs.declared.Mark.{Mark}
+use Rattle.entries.specs.declared.Tally.{Tally}
+
+-- damping starts at factor 1 with the previous change infinite
+unfoldable pub dampingStart : Damping
+dampingStart = record { factor = constant.one; previous = inf false }
+
+-- what follows an entry: a repair keeps the damping, a step gives the next one, and the others end the run
+unfoldable pub goingOf : Damping → Entry → Going
+goingOf d (Freed i) = On d
+goingOf d (Grounded i) = On d
+goingOf d (Singular i) = Over (Failed i)
+goingOf d (Wild p) = Over (Strayed p)
+goingOf d (Stepped next) = On next
+goingOf d Converged = Over Balanced
+
+-- the mark and the number of an entry: VF, GN, SG, NF, ST, OK
+unfoldable pub markOf : Entry → Mark
+markOf (Freed i) = record { 0 = 86; 1 = 70; 2 = i .0 }
+markOf (Grounded i) = record { 0 = 71; 1 = 78; 2 = i .0 }
+markOf (Singular i) = record { 0 = 83; 1 = 71; 2 = i .0 }
+markOf (Wild p) = record { 0 = 78; 1 = 70; 2 = p }
+markOf (Stepped next) = record { 0 = 83; 1 = 84; 2 = 0 }
+markOf Converged = record { 0 = 79; 1 = 75; 2 = 0 }
+
+-- a record with a mark and its number, the lower byte first, as its ith entry
+unfoldable pub putOf : List ℕ → ℕ → Mark → List ℕ
+putOf r i m = set (set (set (set r (4 * i) (m .0)) (4 * i + 1) (m .1)) (4 * i + 2) (m .2 % 256)) (4 * i + 3) (m .2 / 256 % 256)
+
+-- with these entries from the ith on
+unfoldable pub written : ℕ → List Entry → List ℕ → List ℕ
+unfolding putOf markOf
+written i [] r = r
+written i (e ∷ es) r = written (suc i) es (putOf r i (markOf e))
+
+-- trials, freed valves and grounded nodes, with one entry more
+unfoldable pub counted : Tally → Entry → Tally
+counted t (Freed i) = record { trials = t .trials + 1; freed = t .freed + 1; grounded = t .grounded }
+counted t (Grounded i) = record { trials = t .trials + 1; freed = t .freed; grounded = t .grounded + 1 }
+counted t (Singular i) = record { trials = t .trials + 1; freed = t .freed; grounded = t .grounded }
+counted t (Wild p) = record { trials = t .trials + 1; freed = t .freed; grounded = t .grounded }
+counted t (Stepped next) = record { trials = t .trials + 1; freed = t .freed; grounded = t .grounded }
+counted t Converged = record { trials = t .trials + 1; freed = t .freed; grounded = t .grounded }
+
+unfoldable pub tallied : Tally → List Entry → Tally
+unfolding counted
+tallied t [] = t
+tallied t (e ∷ es) = tallied (counted t e) es
+
+abbrev pub none : Tally
+none = record { trials = 0; freed = 0; grounded = 0 }

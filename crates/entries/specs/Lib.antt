@@ -1,0 +1,2 @@
+-- The specs of `entries`.
+pub mod Entries

@@ -1,0 +1,116 @@
+// The trial record: an entry a trial, four bytes each; what the answer counts of it; and what
+// follows an entry.
+ghost use mathlib.Core.Path.{_≡_};
+ghost use Prim.Native.Nat.{_+_, _*_, _<_, _≤_};
+ghost use lib.ListN.{length};
+ghost use Rattle.entries.specs.Entries.{dampingStart, goingOf, markOf, putOf, counted};
+use nodes::NodeIndex;
+use repair::Damping;
+use repair::Entry;
+
+// How a run of trials ended: 0, 6, 7, 8.
+pub enum Ended {
+    Balanced,
+    Failed(NodeIndex),
+    Strayed(usize),
+    Limit,
+}
+
+// Whether there is a trial after an entry.
+pub enum Going {
+    On(Damping),
+    Over(Ended),
+}
+
+// Two letters and a number.
+pub struct Mark(pub u8, pub u8, pub usize);
+
+pub struct Tally {
+    pub trials: usize,
+    pub freed: usize,
+    pub grounded: usize,
+}
+
+// Factor 1, previous change infinite.
+pub fn damping_start() -> Damping
+    ensures { λ r. ⌜ r ≡ dampingStart ⌝ }
+{
+    Damping {
+        factor: 1.0,
+        previous: 1.0 / 0.0,
+    }
+}
+
+// What follows an entry.
+pub fn go(e: Entry, d: Damping) -> Going
+    ensures { λ r. ⌜ r ≡ goingOf d e ⌝ }
+{
+    match e {
+        Entry::Freed(_) => Going::On(d),
+        Entry::Grounded(_) => Going::On(d),
+        Entry::Singular(n) => Going::Over(Ended::Failed(n)),
+        Entry::Wild(p) => Going::Over(Ended::Strayed(p)),
+        Entry::Stepped(next) => Going::On(next),
+        Entry::Converged => Going::Over(Ended::Balanced),
+    }
+}
+
+// The mark and the number of an entry.
+pub fn marked(e: Entry) -> Mark
+    ensures { λ r. ⌜ r ≡ markOf e ⌝ }
+{
+    match e {
+        Entry::Freed(i) => Mark(86, 70, i.0),
+        Entry::Grounded(i) => Mark(71, 78, i.0),
+        Entry::Singular(i) => Mark(83, 71, i.0),
+        Entry::Wild(p) => Mark(78, 70, p),
+        Entry::Stepped(_) => Mark(83, 84, 0),
+        Entry::Converged => Mark(79, 75, 0),
+    }
+}
+
+// Writes the ith entry: a mark and its number, the lower byte first.
+pub fn put(entries: &mut [u8], i: usize, m: Mark)
+    requires { ⌜ (i < 65536) × (4 * i + 4 ≤ length (now entries)) ⌝ }
+    ensures { λ _. ⌜ now (entries .exit) ≡ putOf (now (entries .entry)) i m ⌝ }
+{
+    entries[4 * i] = m.0;
+    entries[4 * i + 1] = m.1;
+    entries[4 * i + 2] = (m.2 % 256) as u8;
+    entries[4 * i + 3] = (m.2 / 256 % 256) as u8;
+}
+
+// A tally of one trial more that freed and grounded nothing.
+fn one_more(t: Tally) -> Tally
+    requires { ⌜ t .trials < 65536 ⌝ }
+    ensures { λ r. ⌜ r ≡ record { trials = t .trials + 1; freed = t .freed; grounded = t .grounded } ⌝ }
+{
+    Tally {
+        trials: t.trials + 1,
+        freed: t.freed,
+        grounded: t.grounded,
+    }
+}
+
+// A tally with one entry more.
+pub fn count(t: Tally, e: Entry) -> Tally
+    requires { ⌜ (t .trials < 65536) × ((t .freed ≤ t .trials) × (t .grounded ≤ t .trials)) ⌝ }
+    ensures { λ r. ⌜ r ≡ counted t e ⌝ }
+{
+    match e {
+        Entry::Freed(_) => Tally {
+            trials: t.trials + 1,
+            freed: t.freed + 1,
+            grounded: t.grounded,
+        },
+        Entry::Grounded(_) => Tally {
+            trials: t.trials + 1,
+            freed: t.freed,
+            grounded: t.grounded + 1,
+        },
+        Entry::Singular(_) => one_more(t),
+        Entry::Wild(_) => one_more(t),
+        Entry::Stepped(_) => one_more(t),
+        Entry::Converged => one_more(t),
+    }
+}

@@ -1,0 +1,2 @@
+-- The specs of `repair`.
+pub mod Repair
