@@ -1,0 +1,77 @@
+-- One turn of the run of trials, over plain variables. Assumes nothing.
+use Prim.Native.Nat.{ℕ, suc, _+_, _-_, _≤_, _<_}
+use mathlib.Core.Path.{_≡_, refl}
+use mathlib.Core.List.{List}
+use mathlib.Core.Bool.{Bool}
+use native.Mathlib.Omega.{arith}
+use native.Mathlib.Numerals.{add-one}
+use lib.ListN.{length}
+use lib.Ieee.{Float}
+use Rattle.repair.specs.declared.Damping.{Damping}
+use Rattle.repair.specs.declared.Entry.{Entry}
+use Rattle.repair.specs.declared.Entry.the-variants.{Freed, Grounded, Singular, Wild, Stepped, Converged}
+use Rattle.state.specs.State.{State}
+use Rattle.trial.specs.Trial.{Room, outcome, Repair, trialWith}
+use Rattle.entries.specs.Entries.{goingOf, markOf, putOf, written, counted, tallied}
+use Rattle.entries.specs.declared.Ended.{Ended}
+use Rattle.entries.specs.declared.Ended.the-variants.{Limit}
+use Rattle.entries.specs.declared.Going.{Going}
+use Rattle.entries.specs.declared.Going.the-variants.{On, Over}
+use Rattle.entries.specs.declared.Mark.{Mark}
+use Rattle.entries.specs.declared.Tally.{Tally}
+use Rattle.runs.specs.Run.{after, runWith, finish}
+
+-- every lent slice has the length that it came with
+pub record Kept (t₀ t : State) (r₀ r : List ℕ) (x₀ x : List Float) : Type 0 where
+  pub heads : length (t .heads) ≡ length (t₀ .heads)
+  pub demands : length (t .demands) ≡ length (t₀ .demands)
+  pub flows : length (t .flows) ≡ length (t₀ .flows)
+  pub statuses : length (t .statuses) ≡ length (t₀ .statuses)
+  pub grounded : length (t .grounded) ≡ length (t₀ .grounded)
+  pub entries : length r ≡ length r₀
+  pub scratch : length x ≡ length x₀
+
+pub kept-start : (t : State) (r : List ℕ) (x : List Float) → Kept t t r r x x
+kept-start t r x = record { heads = refl; demands = refl; flows = refl; statuses = refl; grounded = refl; entries = refl; scratch = refl }
+
+pub kept-room : (n k : ℕ) (t₀ t : State) (r₀ r : List ℕ) (x₀ x : List Float) → Kept t₀ t r₀ r x₀ x → Room n k t₀ → Room n k t
+kept-room n k t₀ t r₀ r x₀ x c m = record { heads = omega arith; demands = omega arith; flows = omega arith; statuses = omega arith; grounded = omega arith }
+
+-- one more is counted
+pub record Counts (t u : Tally) : Type 0 where
+  pub trials : u .trials ≡ t .trials + 1
+  pub freed : u .freed ≤ t .freed + 1
+  pub grounded : u .grounded ≤ t .grounded + 1
+
+pub counts : (t : Tally) (e : Entry) → Counts t (counted t e)
+unfolding counted
+counts t (Freed i) = record { trials = refl; freed = omega arith; grounded = omega arith }
+counts t (Grounded i) = record { trials = refl; freed = omega arith; grounded = omega arith }
+counts t (Singular i) = record { trials = refl; freed = omega arith; grounded = omega arith }
+counts t (Wild i) = record { trials = refl; freed = omega arith; grounded = omega arith }
+counts t (Stepped i) = record { trials = refl; freed = omega arith; grounded = omega arith }
+counts t Converged = record { trials = refl; freed = omega arith; grounded = omega arith }
+
+-- a trial after which the run goes on, one that ends it, and the limit
+module _ (repair : Repair) (s : List ℕ) (n k m i : ℕ) (d : Damping) (tally : Tally) (r : List ℕ) (t : State) where
+  pub run-on : (e : Entry) (t' : State) (mark : Mark) (r' : List ℕ) (tally' : Tally) (g : Going) (d' : Damping) → i < m
+      → outcome e t' ≡ trialWith repair s n k d t → mark ≡ markOf e → r' ≡ putOf r i mark → tally' ≡ counted tally e → g ≡ goingOf d e → g ≡ On d'
+      → finish (i + 1) tally' r' (runWith repair s n k (m - (i + 1)) d' t') ≡ finish i tally r (runWith repair s n k (m - i) d t)
+  unfolding runWith after finish written tallied
+  run-on e t' mark r' tally' g d' h o em er et eg on =
+      let p : m - i ≡ suc (m - (i + 1)) = omega arith in
+      rw (p, ← o, ← eg, on, er, em, et, add-one)
+
+  pub run-over : (e : Entry) (t' : State) (mark : Mark) (r' : List ℕ) (tally' : Tally) (g : Going) (z : Ended) → i < m
+      → outcome e t' ≡ trialWith repair s n k d t → mark ≡ markOf e → r' ≡ putOf r i mark → tally' ≡ counted tally e → g ≡ goingOf d e → g ≡ Over z
+      → record { ran = record { ended = z; tally = tally' }; bytes = r'; state = t' } ≡ finish i tally r (runWith repair s n k (m - i) d t)
+  unfolding runWith after finish written tallied
+  run-over e t' mark r' tally' g z h o em er et eg over =
+      let p : m - i ≡ suc (m - (i + 1)) = omega arith in
+      rw (p, ← o, ← eg, over, er, em, et)
+
+  pub run-limit : m ≤ i → record { ran = record { ended = Limit; tally = tally }; bytes = r; state = t } ≡ finish i tally r (runWith repair s n k (m - i) d t)
+  unfolding runWith after finish written tallied
+  run-limit h =
+      let p : m - i ≡ 0 = omega arith in
+      rw p

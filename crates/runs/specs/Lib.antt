@@ -1,0 +1,2 @@
+-- The specs of `runs`.
+pub mod Run

@@ -1,0 +1,43 @@
+-- A run of trials: its entries in order, how it ended, and the state that it left. Definitions only.
+use Prim.Native.Nat.{ℕ, zero, suc}
+use mathlib.Core.List.{List, [], _∷_}
+use Rattle.repair.specs.declared.Damping.{Damping}
+use Rattle.repair.specs.declared.Entry.{Entry}
+use Rattle.state.specs.State.{State}
+use Rattle.trial.specs.Trial.{Outcome, Repair, trialWith}
+use Rattle.entries.specs.Entries.{goingOf, written, tallied}
+use Rattle.entries.specs.declared.Ended.{Ended}
+use Rattle.entries.specs.declared.Ended.the-variants.{Limit}
+use Rattle.entries.specs.declared.Going.{Going}
+use Rattle.entries.specs.declared.Going.the-variants.{On, Over}
+use Rattle.entries.specs.declared.Tally.{Tally}
+use Rattle.runs.specs.declared.Ran.{Ran}
+
+pub record Run : Type 0 where
+  pub entries : List Entry
+  pub ended : Ended
+  pub state : State
+
+-- an entry, the state after it, and the trials that follow if there are any
+unfoldable pub after : Entry → State → Going → (Damping → State → Run) → Run
+after e t (On d) next = record { entries = e ∷ next d t .entries; ended = next d t .ended; state = next d t .state }
+after e t (Over z) next = record { entries = e ∷ []; ended = z; state = t }
+
+-- at most m trials, of n nodes and k links
+unfoldable pub runWith : Repair → List ℕ → ℕ → ℕ → ℕ → Damping → State → Run
+unfolding after
+runWith repair s n k zero d t = record { entries = []; ended = Limit; state = t }
+runWith repair s n k (suc m) d t =
+    let o = trialWith repair s n k d t in
+    after (o .entry) (o .state) (goingOf d (o .entry)) (runWith repair s n k m)
+
+-- how a run ended with its tally, the record's bytes and the state
+pub record Finished : Type 0 where
+  pub ran : Ran
+  pub bytes : List ℕ
+  pub state : State
+
+-- what a run leaves, of a record that holds i entries and a tally of them
+unfoldable pub finish : ℕ → Tally → List ℕ → Run → Finished
+finish i tally bytes run =
+    record { ran = record { ended = run .ended; tally = tallied tally (run .entries) }; bytes = written i (run .entries) bytes; state = run .state }

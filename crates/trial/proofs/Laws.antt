@@ -1,0 +1,130 @@
+-- One trial over plain variables: what the calls leave, put together. Assumes nothing.
+use Prim.Native.Nat.{ℕ, _≤_, _<_}
+use mathlib.Core.Path.{_≡_, refl, sym, ap, _∙_}
+use mathlib.Core.List.{List}
+use mathlib.Core.Bool.{Bool, true, false}
+use native.Mathlib.Omega.{arith}
+use lib.ListN.{length}
+use lib.Ieee.{Float}
+use Rattle.records.specs.Records.{optionsOf}
+use Rattle.records.specs.declared.records.Options.{Options}
+use Rattle.sheet.specs.declared.layout.Found.{Found}
+use Rattle.sheet.specs.declared.layout.Found.the-variants.{At, Nothing}
+use Rattle.linear.specs.Factorization.{factorOf}
+use Rattle.substitution.specs.Substitution.{solved}
+use Rattle.linear.specs.declared.factorization.Factored.{Factored}
+use Rattle.linear.specs.declared.factorization.Factored.the-variants.{Done, Stopped}
+use Rattle.linear.specs.declared.factorization.UnknownIndex.{UnknownIndex}
+use Rattle.damping.specs.Damping.{dampedOf, relativeChange, convergedOf}
+use Rattle.columns.specs.Columns.{zeros}
+use Rattle.columns.proofs.Laws.{zeros-long}
+use Rattle.linear.proofs.Laws.{stops-below}
+use Rattle.nodes.specs.Numbering.{before, nodeOf, nodeNumbered, NodesRight}
+use Rattle.nodes.specs.declared.numbering.NodeIndex.{NodeIndex}
+use Rattle.nodes.proofs.Rows.{node-of}
+use Rattle.excess.specs.Excess.{excessOf}
+use Rattle.assembly.specs.Assembly.{System, system, columns, assembleOf}
+use Rattle.assembly.proofs.Fresh.{fresh}
+use Rattle.state.specs.State.{State, state, solvedHeads}
+use Rattle.state.specs.Wild.{wildPlace}
+use Rattle.update.specs.Update.{step, stepping, updateOf}
+use Rattle.update.specs.declared.Stats.{Stats}
+use Rattle.tanks.specs.Tanks.{tanks, tankLinksOf}
+use Rattle.repair.specs.Repair.{repaired, repairAt}
+use Rattle.repair.specs.declared.Damping.{Damping}
+use Rattle.repair.specs.declared.Entry.{Entry}
+use Rattle.repair.specs.declared.Entry.the-variants.{Wild, Stepped, Converged}
+use Rattle.trial.specs.Trial.{Outcome, outcome, Repair, repairOf, judged, verdict, stepOf, factored, systemOf, factorsOf, trialWith}
+
+-- ---- the verdict
+
+module _ (o : Options) (d : Damping) (m : Stats) (change : Float) (moved : change ≡ relativeChange (m .moved) (m .total) (o .accuracy)) (b : Bool)
+    (tested : b ≡ convergedOf change (o .accuracy) (m .changed) (m .largest) (o .unit) (o .change)) where
+  pub judged-converged : b ≡ true → Converged ≡ judged o d m
+  unfolding judged
+  judged-converged t = rw (← moved, ← tested, t)
+
+  pub judged-stepped : (factor : Float) → factor ≡ dampedOf (d .factor) (d .previous) change (o .damping) → b ≡ false → Stepped (record { factor = factor; previous = change }) ≡ judged o d m
+  unfolding judged
+  judged-stepped factor f t = rw (← moved, ← tested, t, f)
+
+module _ (o : Options) (d : Damping) (f : Found) (m : Stats) where
+  pub verdict-wild : (p : ℕ) → f ≡ At p → Wild p ≡ verdict f o d m
+  unfolding verdict
+  verdict-wild p e = rw e
+
+  pub verdict-judged : (o' : Options) (r : Entry) → f ≡ Nothing → o' ≡ o → r ≡ judged o' d m → r ≡ verdict f o d m
+  unfolding verdict
+  verdict-judged o' r e h j = rw (e, ← h) j
+
+-- ---- the calls of a step
+
+pub step-of : (s : List ℕ) (n k : ℕ) (d : Damping) (t : State) (g y x h q w : List Float) (codes codes' : List ℕ) (m : Stats) (r : Entry)
+    → h ≡ solvedHeads s x n (t .heads)
+    → stepping q codes m ≡ updateOf s n k (step h g y (d .factor)) (t .flows) (t .statuses)
+    → tanks w codes' ≡ tankLinksOf s n k h q (t .demands) codes
+    → r ≡ verdict (wildPlace n k h q) (optionsOf s) d m
+    → outcome r (state h w q codes' (t .grounded)) ≡ stepOf s n k d t g y x
+unfolding stepOf
+step-of s n k d t g y x h q w codes codes' m r eh eu et er = rw (← eh, ← eu, ← et, er)
+
+-- ---- the calls of a trial
+
+module _ (s : List ℕ) (n k : ℕ) (t : State) (m₀ e m r g y : List Float) where
+  pub system-of : length m₀ ≡ 4096 → e ≡ excessOf s n k (t .demands) (t .flows) (zeros 64)
+      → system m r g y ≡ assembleOf s n k (columns (t .heads) (t .flows) (t .statuses) e) (t .demands) (t .grounded) (system m₀ (zeros 64) (zeros 128) (zeros 128))
+      → system m r g y ≡ systemOf s n k t
+  unfolding systemOf
+  system-of h ex built =
+      rw (← ex)
+      (built ∙ fresh s n k (columns (t .heads) (t .flows) (t .statuses) e) (t .demands) (t .grounded) m₀ (zeros 4096) (zeros 64) (zeros 64) (zeros 128) (zeros 128) h (zeros-long 4096) (zeros-long 64) (zeros-long 64))
+
+-- the two ways of a trial, whatever the repair
+module _ (repair : Repair) (s : List ℕ) (n k : ℕ) (d : Damping) (t : State) (m r g y l : List Float) (f : Factored) (o : Outcome)
+    (assembled : system m r g y ≡ systemOf s n k t) (left : l ≡ factorOf (before s n) m .matrix) (answered : f ≡ factorOf (before s n) m .answer) where
+  stops : (u : UnknownIndex) → f ≡ Stopped u → o ≡ repair s n k t (nodeNumbered s n (u .0)) → o ≡ trialWith repair s n k d t
+  unfolding trialWith factored
+  stops u e h = rw (← assembled, ← answered, e) h
+
+  steps : (x : List Float) → f ≡ Done → x ≡ solved l (before s n) r → o ≡ stepOf s n k d t g y x → o ≡ trialWith repair s n k d t
+  unfolding trialWith factored
+  steps x e h w = rw (← assembled, ← answered, e, ← left, ← h) w
+
+-- the same with the number of unknowns as it was counted
+module _ (repair : Repair) (s : List ℕ) (n k : ℕ) (d : Damping) (t : State) (count : ℕ) (counted : count ≡ before s n) (m r g y l : List Float) (f : Factored) (o : Outcome)
+    (assembled : system m r g y ≡ systemOf s n k t) (left : l ≡ factorOf count m .matrix) (answered : f ≡ factorOf count m .answer) where
+  here : l ≡ factorOf (before s n) m .matrix
+  here = left ∙ ap (λ (i : ℕ). factorOf i m .matrix) counted
+
+  told : f ≡ factorOf (before s n) m .answer
+  told = answered ∙ ap (λ (i : ℕ). factorOf i m .answer) counted
+
+  pub trial-stops : (u : UnknownIndex) → f ≡ Stopped u → o ≡ repair s n k t (nodeNumbered s n (u .0)) → o ≡ trialWith repair s n k d t
+  trial-stops = stops repair s n k d t m r g y l f o assembled here told
+
+  pub trial-steps : (x : List Float) → f ≡ Done → x ≡ solved l count r → o ≡ stepOf s n k d t g y x → o ≡ trialWith repair s n k d t
+  trial-steps x e h = steps repair s n k d t m r g y l f o assembled here told x e (h ∙ ap (λ (i : ℕ). solved l i r) counted)
+
+pub factors-left : (s : List ℕ) (n k : ℕ) (t : State) (count : ℕ) (m r g y l : List Float) → count ≡ before s n → system m r g y ≡ systemOf s n k t → l ≡ factorOf count m .matrix → l ≡ factorsOf s n k t
+unfolding factorsOf
+factors-left s n k t count m r g y l c a h =
+    h ∙ ap (λ (i : ℕ). factorOf i m .matrix) c ∙ ap (λ (a : System). factorOf (before s n) (a .matrix) .matrix) a
+
+-- the node of an unknown at which the factorization stopped
+module _ (s : List ℕ) (n count : ℕ) (back : List ℕ) (m : List Float) (f : Factored) (u : UnknownIndex) (counted : count ≡ before s n)
+    (answered : f ≡ factorOf count m .answer) (stopped : f ≡ Stopped u) where
+  pub unknown-below : u .0 < count
+  unknown-below = stops-below count m u (sym answered ∙ stopped)
+
+  pub failing-node : (node : NodeIndex) → NodesRight n s back → node ≡ nodeOf back (u .0) → node .0 ≡ nodeNumbered s n (u .0)
+  failing-node node right e = ap (λ (i : NodeIndex). i .0) (e ∙ right .right (u .0) (omega (arith, unknown-below, counted)))
+
+  pub failing-below : (node : NodeIndex) → NodesRight n s back → node ≡ nodeOf back (u .0) → node .0 < n
+  failing-below node right e =
+      omega (arith, failing-node node right e, node-of s n (u .0) (omega (arith, unknown-below, counted)) .below)
+
+pub repair-of : (s : List ℕ) (n k : ℕ) (t : State) (node at : ℕ) (r : Entry) (codes : List ℕ) (marks : List Bool)
+    → at ≡ node → repaired r codes marks ≡ repairAt s n k (t .statuses) (t .grounded) at
+    → outcome r (state (t .heads) (t .demands) (t .flows) codes marks) ≡ repairOf s n k t node
+unfolding repairOf
+repair-of s n k t node at r codes marks e h = rw (← e, ← h)

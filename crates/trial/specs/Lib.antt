@@ -1,0 +1,2 @@
+-- The specs of `trial`.
+pub mod Trial
