@@ -1,0 +1,2 @@
+-- The specs of `answers`.
+pub mod Answers

@@ -1,0 +1,150 @@
+// The answer, and what each end of a solve writes into the lent buffers (document 01, "What the desk
+// is told").
+ghost use mathlib.Core.Path.{_≡_};
+ghost use mathlib.Core.List.{List};
+ghost use mathlib.Core.Bool.{Bool};
+ghost use Prim.Native.Nat.{ℕ, _≤_};
+ghost use lib.ListN.{length};
+ghost use lib.Ieee.{Float};
+ghost use Rattle.records.specs.Offsets.{linkOffset};
+ghost use Rattle.sheet.specs.Ends.{EndsBelow};
+ghost use Rattle.state.specs.State.{state};
+ghost use Rattle.columns.specs.Columns.{copied};
+ghost use Rattle.answers.specs.Answers.{lent, shortOf, failedOf, emptied, told};
+use columns::copy_bytes;
+use columns::copy_floats;
+use entries::Ended;
+use entries::Tally;
+use sheet::Found;
+use sheet::Net;
+
+pub struct Answer {
+    pub number: usize,
+    pub place: usize,
+    pub trials: usize,
+    pub freed: usize,
+    pub grounded: usize,
+    pub demand: f64,
+    pub supply: f64,
+    pub error: f64,
+}
+
+// Refusal 5: the lowest place of a buffer that is too short, by the buffers' lengths.
+pub fn short(
+    net: Net,
+    trials: usize,
+    heads: usize,
+    demands: usize,
+    flows: usize,
+    statuses: usize,
+    entries: usize,
+    scratch: usize,
+) -> Found
+    requires { ⌜ trials ≤ 65535 ⌝ }
+    ensures { λ r. ⌜ r ≡ shortOf net trials heads demands flows statuses entries scratch ⌝ }
+{
+    if heads < net.nodes {
+        return Found::At(0);
+    }
+    if demands < net.nodes {
+        return Found::At(1);
+    }
+    if flows < net.links {
+        return Found::At(2);
+    }
+    if statuses < net.links {
+        return Found::At(3);
+    }
+    if entries < 4 * trials {
+        return Found::At(4);
+    }
+    if scratch < 4096 {
+        return Found::At(5);
+    }
+    Found::Nothing
+}
+
+// An answer without results.
+pub fn failed(number: usize, place: usize, t: Tally) -> Answer
+    ensures { λ r. ⌜ r ≡ failedOf number place t ⌝ }
+{
+    Answer {
+        number: number,
+        place: place,
+        trials: t.trials,
+        freed: t.freed,
+        grounded: t.grounded,
+        demand: 0.0,
+        supply: 0.0,
+        error: 0.0,
+    }
+}
+
+// Results into the caller's buffers: one entry a node or a link; later entries stay.
+fn give(
+    net: Net,
+    heads: &mut [f64],
+    demands: &mut [f64],
+    flows: &mut [f64],
+    statuses: &mut [u8],
+    h: &[f64],
+    d: &[f64],
+    q: &[f64],
+    s: &[u8],
+)
+    requires { ⌜ (net .nodes ≤ length (now heads)) × (net .nodes ≤ length (now demands)) × (net .links ≤ length (now flows)) × (net .links ≤ length (now statuses)) ⌝ }
+    requires { ⌜ (net .nodes ≤ length (now h)) × (net .nodes ≤ length (now d)) × (net .links ≤ length (now q)) × (net .links ≤ length (now s)) ⌝ }
+    ensures heads { λ _. ⌜ now (heads .exit) ≡ copied (net .nodes) (now (h .entry)) (now (heads .entry)) ⌝ }
+    ensures demands { λ _. ⌜ now (demands .exit) ≡ copied (net .nodes) (now (d .entry)) (now (demands .entry)) ⌝ }
+    ensures flows { λ _. ⌜ now (flows .exit) ≡ copied (net .links) (now (q .entry)) (now (flows .entry)) ⌝ }
+    ensures statuses { λ _. ⌜ now (statuses .exit) ≡ copied (net .links) (now (s .entry)) (now (statuses .entry)) ⌝ }
+{
+    copy_floats(heads, h, net.nodes);
+    copy_floats(demands, d, net.nodes);
+    copy_floats(flows, q, net.links);
+    copy_bytes(statuses, s, net.links);
+}
+
+// What a run came to, told: results on 0 alone. The columns are the run's own.
+pub fn conclude(
+    sheet: &[u8],
+    net: Net,
+    trials: usize,
+    ended: Ended,
+    tally: Tally,
+    h: &[f64],
+    d: &mut [f64],
+    q: &[f64],
+    s: &[u8],
+    heads: &mut [f64],
+    demands: &mut [f64],
+    flows: &mut [f64],
+    statuses: &mut [u8],
+) -> Answer
+    requires { ⌜ linkOffset (net .nodes) (net .links) ≤ length (now sheet) ⌝ }
+    requires { ⌜ EndsBelow (net .nodes) (net .links) (now sheet) ⌝ }
+    requires { ⌜ (net .nodes ≤ length (now heads)) × (net .nodes ≤ length (now demands)) × (net .links ≤ length (now flows)) × (net .links ≤ length (now statuses)) ⌝ }
+    requires { ⌜ (net .nodes ≤ length (now h)) × (net .nodes ≤ length (now d)) × (net .links ≤ length (now q)) × (net .links ≤ length (now s)) ⌝ }
+    ensures { λ r. ⌜ ((marks : List Bool) (bytes record₀ : List ℕ) (scratch : List Float) → record { answer = r; lent = lent (now (heads .exit)) (now (demands .exit)) (now (flows .exit)) (now (statuses .exit)) bytes (emptied scratch) } ≡ told (now (sheet .entry)) net trials (lent (now (heads .entry)) (now (demands .entry)) (now (flows .entry)) (now (statuses .entry)) record₀ scratch) (state (now (h .entry)) (now (d .entry)) (now (q .entry)) (now (s .entry)) marks) tally bytes ended) ⌝ }
+{
+    match ended {
+        Ended::Balanced => {
+            let t = balance::balanced(sheet, net.nodes, net.links, d, q);
+            balance::settle(net.nodes, d);
+            give(net, heads, demands, flows, statuses, h, d, q, s);
+            Answer {
+                number: 0,
+                place: 0,
+                trials: tally.trials,
+                freed: tally.freed,
+                grounded: tally.grounded,
+                demand: t.demand,
+                supply: t.supply,
+                error: t.error,
+            }
+        }
+        Ended::Failed(n) => failed(6, n.0, tally),
+        Ended::Strayed(p) => failed(7, p, tally),
+        Ended::Limit => failed(8, trials, tally),
+    }
+}

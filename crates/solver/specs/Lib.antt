@@ -1,0 +1,2 @@
+-- The specs of `solver`.
+pub mod Solve

@@ -1,0 +1,4 @@
+pub mod Laws
+pub mod DigitLaws
+pub mod LineLaws
+pub mod Examples
