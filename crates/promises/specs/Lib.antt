@@ -1,2 +1,3 @@
 -- The specs of `promises`.
 pub mod Bench
+pub mod Unfilled

@@ -1,0 +1,87 @@
+-- Item 6: entries of the assembled matrix that no link fills, and no grounded diagonal, are +0.0. Assumes nothing.
+use Prim.Native.Nat.{ℕ, zero, suc, _+_, _*_, _≤_, _<_}
+use mathlib.Core.Path.{_≡_, refl, sym, _∙_}
+use mathlib.Core.Bool.{Bool, true, false, cond, _&&_}
+use mathlib.Core.List.{List}
+use native.Mathlib.Omega.{arith}
+use lib.ListN.{length, getD}
+use lib.Seq.{getD-set-other}
+use lib.Ieee.{Float, nan, binary64, ofBits, add, sub}
+use Rattle.records.specs.Offsets.{linkOffset}
+use Rattle.records.specs.Records.{linkAt}
+use Rattle.records.specs.declared.records.Link.{Link}
+use Rattle.constants.specs.Constants.{smallValue}
+use Rattle.model.specs.declared.link.Coefficients.{Coefficients}
+use Rattle.model.specs.declared.link.NodeAddition.{NodeAddition}
+use Rattle.columns.specs.Columns.{cleared, addTo, takeFrom}
+use Rattle.columns.proofs.Laws.{cleared-at}
+use Rattle.nodes.specs.Fields.{enabled}
+use Rattle.nodes.specs.Numbering.{rowAt}
+use Rattle.nodes.specs.declared.numbering.Row.{Row}
+use Rattle.nodes.specs.declared.numbering.Row.the-variants.{Unknown, Fixed}
+use Rattle.scatter.specs.Scatter.{onDiagonal, lower, offBetween, givenDiagonal, linkMatrix}
+use Rattle.assembly.specs.Assembly.{System, system, Columns, coefficientsAt, linkIn, linkOf, linksOf, groundOf, groundedOf, assembleOf}
+use Rattle.promises.specs.Unfilled.{OffDiagonal, Apart, Unfilled}
+
+module _ (p : ℕ) where
+  diagonal-apart : (row : Row) (x : Float) (m : List Float) → OffDiagonal row p → getD (onDiagonal row x m) p nan ≡ getD m p nan
+  unfolding onDiagonal addTo
+  diagonal-apart (Unknown u) x m a = getD-set-other m (64 * u .0 + u .0) p (add binary64 (getD m (64 * u .0 + u .0) nan) x) nan (a .off u refl)
+  diagonal-apart Fixed x m a = refl
+
+  between-apart : (u v : Row) (x : Float) (m : List Float) → Apart u v p → getD (offBetween u v x m) p nan ≡ getD m p nan
+  unfolding offBetween takeFrom
+  between-apart (Unknown u) (Unknown v) x m a = getD-set-other m (lower (u .0) (v .0)) p (sub binary64 (getD m (lower (u .0) (v .0)) nan) x) nan (a .between u v refl refl)
+  between-apart (Unknown u) Fixed x m a = refl
+  between-apart Fixed v x m a = refl
+
+  either : (b : Bool) (l m : List Float) → getD l p nan ≡ getD m p nan → getD (cond b l m) p nan ≡ getD m p nan
+  either true l m h = h
+  either false l m h = refl
+
+  given-apart : (a : NodeAddition) (row : Row) (m : List Float) → OffDiagonal row p → getD (givenDiagonal a row m) p nan ≡ getD m p nan
+  unfolding givenDiagonal
+  given-apart a row m d = either (a .given) (onDiagonal row (a .diagonal) m) m (diagonal-apart row (a .diagonal) m d)
+
+  link-apart : (u v : Row) (c : Coefficients) (m : List Float) → Apart u v p → getD (linkMatrix u v c m) p nan ≡ getD m p nan
+  unfolding linkMatrix
+  link-apart u v c m a =
+      given-apart (c .downstream) v _ (a .end) ∙ given-apart (c .upstream) u _ (a .start) ∙ between-apart u v (c .conductance) _ a ∙ diagonal-apart v (c .conductance) _ (a .end) ∙ diagonal-apart u (c .conductance) m (a .start)
+
+  links-apart : (s : List ℕ) (n : ℕ) (c : Columns) (t : System) (k : ℕ)
+      → ((i : ℕ) → i < k → (enabled s (linkAt s (linkOffset n i) .start) && enabled s (linkAt s (linkOffset n i) .end)) ≡ true → Apart (rowAt s (linkAt s (linkOffset n i) .start)) (rowAt s (linkAt s (linkOffset n i) .end)) p)
+      → getD (linksOf s n c k t .matrix) p nan ≡ getD (t .matrix) p nan
+  unfolding linksOf linkOf linkIn
+  links-apart s n c t zero h = refl
+  links-apart s n c t (suc k) h =
+      go (linkAt s (linkOffset n k)) (h k (omega arith)) ∙ links-apart s n c t k (λ i l. h i (omega arith))
+    where
+      was : System
+      was = linksOf s n c k t
+
+      go : (l : Link) → ((enabled s (l .start) && enabled s (l .end)) ≡ true → Apart (rowAt s (l .start)) (rowAt s (l .end)) p) → getD (linkOf s c l k was .matrix) p nan ≡ getD (was .matrix) p nan
+      go l a = on (enabled s (l .start) && enabled s (l .end)) refl
+        where
+          on : (b : Bool) → (enabled s (l .start) && enabled s (l .end)) ≡ b → getD (cond b (linkIn s c l (coefficientsAt s (c .flows) (c .statuses) (c .excess) l k) k was) was .matrix) p nan ≡ getD (was .matrix) p nan
+          on true e = link-apart (rowAt s (l .start)) (rowAt s (l .end)) (coefficientsAt s (c .flows) (c .statuses) (c .excess) l k) (was .matrix) (a e)
+          on false e = refl
+
+  grounded-apart : (s : List ℕ) (marks : List Bool) (m : List Float) (n : ℕ) → ((i : ℕ) → i < n → getD marks i false ≡ true → OffDiagonal (rowAt s i) p) → getD (groundedOf s marks n m) p nan ≡ getD m p nan
+  unfolding groundedOf groundOf
+  grounded-apart s marks m zero h = refl
+  grounded-apart s marks m (suc n) h = on (getD marks n false) refl ∙ grounded-apart s marks m n (λ i l. h i (omega arith))
+    where
+      was : List Float
+      was = groundedOf s marks n m
+
+      on : (b : Bool) → getD marks n false ≡ b → getD (cond b (onDiagonal (rowAt s n) smallValue was) was) p nan ≡ getD was p nan
+      on true e = diagonal-apart (rowAt s n) smallValue was (h n (omega arith) e)
+      on false e = refl
+
+-- "entries that no link fills are +0.0", whatever was lent
+pub unfilled : (s : List ℕ) (n k : ℕ) (c : Columns) (demands : List Float) (marks : List Bool) (t : System) (p : ℕ)
+    → length (t .matrix) ≡ 4096 → p < 4096 → Unfilled s n k marks p → getD (assembleOf s n k c demands marks t .matrix) p nan ≡ ofBits binary64 0
+unfolding assembleOf
+unfilled s n k c demands marks t p long here a =
+    let w : System = system (cleared 4096 (t .matrix)) (cleared 64 (t .rhs)) (t .g) (t .y) in
+    grounded-apart p s marks (linksOf s n c k w .matrix) n (a .nodes) ∙ links-apart p s n c w k (a .links) ∙ cleared-at 4096 (t .matrix) (omega arith) p here

@@ -1,0 +1,31 @@
+-- Which entries of the matrix no link fills. Definitions only.
+use Prim.Native.Nat.{ℕ, _+_, _*_, _<_}
+use mathlib.Core.Path.{_≡_}
+use mathlib.Core.Bool.{Bool, true, false, _&&_}
+use mathlib.Core.List.{List}
+use lib.ListN.{getD}
+use Rattle.records.specs.Offsets.{linkOffset}
+use Rattle.records.specs.Records.{linkAt}
+use Rattle.records.specs.declared.records.Link.{Link}
+use Rattle.linear.specs.declared.factorization.UnknownIndex.{UnknownIndex}
+use Rattle.nodes.specs.Fields.{enabled}
+use Rattle.nodes.specs.Numbering.{rowAt}
+use Rattle.nodes.specs.declared.numbering.Row.{Row}
+use Rattle.nodes.specs.declared.numbering.Row.the-variants.{Unknown}
+use Rattle.scatter.specs.Scatter.{lower}
+
+-- entry p is not the diagonal of a row
+pub record OffDiagonal (row : Row) (p : ℕ) : Type 0 where
+  pub off : (u : UnknownIndex) → row ≡ Unknown u → p ≡ 64 * u .0 + u .0 → ⊥
+
+-- nor one of the three places of a link between two rows
+pub record Apart (u v : Row) (p : ℕ) : Type 0 where
+  pub start : OffDiagonal u p
+  pub end : OffDiagonal v p
+  pub between : (i j : UnknownIndex) → u ≡ Unknown i → v ≡ Unknown j → p ≡ lower (i .0) (j .0) → ⊥
+
+-- no link in service, of k behind n nodes, has entry p among its places, and no node grounded has it as its diagonal
+pub record Unfilled (s : List ℕ) (n k : ℕ) (marks : List Bool) (p : ℕ) : Type 0 where
+  pub links : (i : ℕ) → i < k → (enabled s (linkAt s (linkOffset n i) .start) && enabled s (linkAt s (linkOffset n i) .end)) ≡ true
+      → Apart (rowAt s (linkAt s (linkOffset n i) .start)) (rowAt s (linkAt s (linkOffset n i) .end)) p
+  pub nodes : (i : ℕ) → i < n → getD marks i false ≡ true → OffDiagonal (rowAt s i) p
