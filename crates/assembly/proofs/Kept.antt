@@ -17,7 +17,8 @@ use Rattle.scatter.specs.Scatter.{onDiagonal}
 use Rattle.assembly.specs.Assembly.{System, system, Columns, coefficientsAt, linkIn, linkOf, linksOf, demandsOf, groundOf, groundedOf, assembleOf}
 use Rattle.nodes.specs.declared.numbering.Row.{Row}
 use Rattle.columns.proofs.Laws.{cleared-long}
-use Rattle.scatter.proofs.Lengths.{matrix-long, row-long, off-row-long, on-diagonal-long, either-long}
+use Rattle.rows.proofs.Lengths.{off-row-long, on-diagonal-long}
+use Rattle.scatter.proofs.Lengths.{matrix-long, row-long, either-long}
 
 -- two systems have their columns of the same lengths
 pub record SameLengths (t t₀ : System) : Type 0 where

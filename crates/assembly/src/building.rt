@@ -20,10 +20,10 @@ use records::Link;
 use records::link_at;
 use records::link_offset;
 use records::status_of;
-use scatter::add_to_diagonal;
+use rows::add_to_diagonal;
+use rows::take_from_row;
 use scatter::link_into_matrix;
 use scatter::link_into_row;
-use scatter::take_from_row;
 
 // The coefficients of a link at its flow and status.
 fn coefficients_at(

@@ -5,7 +5,7 @@ use Rattle.assembly.proofs.building.ground.Statement.{statement}
 use Rattle.assembly.proofs.building.ground.Tie as tie
 use Rattle.assembly.proofs.building.ground.Reads as reads
 use Rattle.assembly.proofs.building.ground.Lts as lts
-use Rattle.scatter.proofs.add_to_diagonal.Reads as add-to-diagonal-reads
+use Rattle.rows.proofs.add_to_diagonal.Reads as add-to-diagonal-reads
 
 add-to-diagonal-requires : tie.Need-add-to-diagonal-requires
 add-to-diagonal-requires c κs = search needs

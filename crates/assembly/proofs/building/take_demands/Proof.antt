@@ -11,7 +11,7 @@ use Rattle.assembly.proofs.building.take_demands.Tie as tie
 use Rattle.assembly.proofs.building.take_demands.Reads as reads
 use Rattle.assembly.proofs.building.take_demands.Lts as lts
 use Rattle.nodes.proofs.unknown_of.Reads as unknown-of-reads
-use Rattle.scatter.proofs.take_from_row.Reads as take-from-row-reads
+use Rattle.rows.proofs.take_from_row.Reads as take-from-row-reads
 
 abbrev Inv-loop : tie.InvT-loop
 Inv-loop sheet nodes demands unknowns rhs₀ i₀ rhs i = (i ≤ nodes) × (rhs ≡ demandsOf sheet demands i rhs₀) × (length rhs ≡ length rhs₀)

@@ -1,9 +1,9 @@
--- `scatter::add_to_diagonal` meets its contract. Assumes nothing.
-use Rattle.scatter.proofs.Placing.{diagonal-none, diagonal-some}
+-- `rows::add_to_diagonal` meets its contract. Assumes nothing.
+use Rattle.rows.proofs.Placing.{diagonal-none, diagonal-some}
 use borrow.Author.Needs.{needs}
 use native.Mathlib.Omega.{arith}
-use Rattle.scatter.proofs.add_to_diagonal.Statement.{statement}
-use Rattle.scatter.proofs.add_to_diagonal.Tie as tie
+use Rattle.rows.proofs.add_to_diagonal.Statement.{statement}
+use Rattle.rows.proofs.add_to_diagonal.Tie as tie
 
 returns : tie.Need-returns
 returns c = diagonal-none _ _ _ (c .enum-told .given .1)

@@ -1,9 +1,9 @@
--- `scatter::take_from_row` meets its contract. Assumes nothing.
-use Rattle.scatter.proofs.Placing.{off-row-none, off-row-some}
+-- `rows::take_from_row` meets its contract. Assumes nothing.
+use Rattle.rows.proofs.Placing.{off-row-none, off-row-some}
 use borrow.Author.Needs.{needs}
 use native.Mathlib.Omega.{arith}
-use Rattle.scatter.proofs.take_from_row.Statement.{statement}
-use Rattle.scatter.proofs.take_from_row.Tie as tie
+use Rattle.rows.proofs.take_from_row.Statement.{statement}
+use Rattle.rows.proofs.take_from_row.Tie as tie
 
 enum-known-row : tie.Need-enum-known-row
 enum-known-row c = search needs

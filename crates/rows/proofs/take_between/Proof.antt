@@ -1,9 +1,9 @@
--- `scatter::take_between` meets its contract. Assumes nothing.
-use Rattle.scatter.proofs.Placing.{between-first, between-second, between-less, between-more}
+-- `rows::take_between` meets its contract. Assumes nothing.
+use Rattle.rows.proofs.Placing.{between-first, between-second, between-less, between-more}
 use borrow.Author.Needs.{needs}
 use native.Mathlib.Omega.{arith}
-use Rattle.scatter.proofs.take_between.Statement.{statement}
-use Rattle.scatter.proofs.take_between.Tie as tie
+use Rattle.rows.proofs.take_between.Statement.{statement}
+use Rattle.rows.proofs.take_between.Tie as tie
 
 returns : tie.Need-returns
 returns c = between-first _ _ _ _ (c .enum-told .given .1)

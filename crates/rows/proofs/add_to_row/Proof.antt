@@ -1,9 +1,9 @@
--- `scatter::add_to_row` meets its contract. Assumes nothing.
-use Rattle.scatter.proofs.Placing.{row-none, row-some}
+-- `rows::add_to_row` meets its contract. Assumes nothing.
+use Rattle.rows.proofs.Placing.{row-none, row-some}
 use borrow.Author.Needs.{needs}
 use native.Mathlib.Omega.{arith}
-use Rattle.scatter.proofs.add_to_row.Statement.{statement}
-use Rattle.scatter.proofs.add_to_row.Tie as tie
+use Rattle.rows.proofs.add_to_row.Statement.{statement}
+use Rattle.rows.proofs.add_to_row.Tie as tie
 
 enum-known-row : tie.Need-enum-known-row
 enum-known-row c = search needs
