@@ -9,7 +9,7 @@ use Rattle.records.specs.Offsets.{linkOffset}
 use Rattle.records.specs.Records.{linkAt}
 use Rattle.records.specs.declared.records.Link.{Link}
 use Rattle.constants.specs.Constants.{smallValue}
-use Rattle.model.specs.declared.link.Coefficients.{Coefficients}
+use Rattle.coefficient.specs.declared.Coefficients.{Coefficients}
 use Rattle.columns.specs.Columns.{cleared}
 use Rattle.nodes.specs.Fields.{enabled, fixedNode}
 use Rattle.nodes.specs.Numbering.{rowAt}

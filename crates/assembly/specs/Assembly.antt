@@ -12,7 +12,7 @@ use Rattle.records.specs.declared.records.Link.{Link}
 use Rattle.sheet.specs.Ends.{EndsBelow}
 use Rattle.constants.specs.Constants.{smallValue}
 use Rattle.model.specs.Rules.{coefficientsOf}
-use Rattle.model.specs.declared.link.Coefficients.{Coefficients}
+use Rattle.coefficient.specs.declared.Coefficients.{Coefficients}
 use Rattle.columns.specs.Columns.{cleared}
 use Rattle.nodes.specs.Fields.{enabled, fixedNode, elevationOf}
 use Rattle.nodes.specs.Numbering.{rowAt, RowsRight}

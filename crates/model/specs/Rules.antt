@@ -4,9 +4,9 @@ use Rattle.records.specs.declared.codes.LinkKind.{LinkKind}
 use Rattle.records.specs.declared.codes.LinkKind.the-variants.{Pipe, Prv, Psv, Pbv, Fcv, Tcv, Pcv}
 use Rattle.records.specs.declared.codes.Status.{Status}
 use Rattle.records.specs.declared.records.Link.{Link}
-use Rattle.model.specs.Pipe.{pipeOf}
-use Rattle.model.specs.Valve.{valveOf}
-use Rattle.model.specs.declared.link.Coefficients.{Coefficients}
+use Rattle.pipes.specs.Pipe.{pipeOf}
+use Rattle.valves.specs.Valve.{valveOf}
+use Rattle.coefficient.specs.declared.Coefficients.{Coefficients}
 
 -- a pipe has the pipe's coefficients, every other kind the valve's
 abbrev pub byKind : LinkKind → Coefficients → Coefficients → Coefficients

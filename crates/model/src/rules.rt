@@ -2,12 +2,12 @@
 ghost use mathlib.Core.Path.{_≡_};
 ghost use Rattle.power.specs.Tables.{tableA, tableB};
 ghost use Rattle.model.specs.Rules.{coefficientsOf};
-use crate::link::Coefficients;
-use crate::pipe::pipe_rule;
-use crate::valve::valve_rule;
+use coefficient::Coefficients;
+use pipes::pipe_rule;
 use records::Link;
 use records::LinkKind;
 use records::Status;
+use valves::valve_rule;
 
 // The coefficients of a link at a flow and a status, which are the solve's and not the sheet's.
 pub fn coefficients(

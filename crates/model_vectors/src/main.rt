@@ -3,8 +3,8 @@
 // 16 hex digits, `-` stands for an absent part.
 ghost use mathlib.Core.Path.{_≡_};
 ghost use Rattle.power.specs.Tables.{tableA, tableB};
-use model::Coefficients;
-use model::NodeAddition;
+use coefficient::Coefficients;
+use coefficient::NodeAddition;
 use records::Link;
 use status::Change;
 

@@ -5,8 +5,8 @@ use lib.Ieee.{lt, eq, neg, add, sum, mul, div, round, units, odd, size, span, cl
 use Rattle.float.specs.Sign.{absOf}
 use Rattle.float.specs.Order.{largerOf, smallerOf}
 use Rattle.roots.specs.Root.{wholeRootIn, wholeRoot, moved, exponent, scaled, rootBits, rootOf}
-use Rattle.model.specs.Link.{noAddition, simpleOf}
-use Rattle.model.specs.Valve.{valveCoefficients}
+use Rattle.coefficient.specs.Link.{noAddition, simpleOf}
+use Rattle.valves.specs.Valve.{valveCoefficients}
 use Rattle.damping.specs.Damping.{dampedOf}
 use Rattle.promises.specs.Bench.{Bench}
 

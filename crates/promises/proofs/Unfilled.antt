@@ -11,8 +11,8 @@ use Rattle.records.specs.Offsets.{linkOffset}
 use Rattle.records.specs.Records.{linkAt}
 use Rattle.records.specs.declared.records.Link.{Link}
 use Rattle.constants.specs.Constants.{smallValue}
-use Rattle.model.specs.declared.link.Coefficients.{Coefficients}
-use Rattle.model.specs.declared.link.NodeAddition.{NodeAddition}
+use Rattle.coefficient.specs.declared.Coefficients.{Coefficients}
+use Rattle.coefficient.specs.declared.NodeAddition.{NodeAddition}
 use Rattle.columns.specs.Columns.{cleared, addTo, takeFrom}
 use Rattle.columns.proofs.Laws.{cleared-at}
 use Rattle.nodes.specs.Fields.{enabled}

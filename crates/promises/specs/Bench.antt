@@ -5,8 +5,8 @@ use lib.Ieee.{Float, nan, inf, neg}
 use Rattle.roots.specs.Root.{rootOf}
 use Rattle.constants.specs.Arithmetic.{over}
 use Rattle.constants.specs.Constants.{zero, hundredth, fiftieth, tenth, quarter, half, threeQuarters, one, oneAndHalf, twoAndQuarter, three, six, smallValue}
-use Rattle.model.specs.Link.{simpleOf}
-use Rattle.model.specs.Valve.{valveCoefficients}
+use Rattle.coefficient.specs.Link.{simpleOf}
+use Rattle.valves.specs.Valve.{valveCoefficients}
 use Rattle.damping.specs.Damping.{dampedOf}
 
 -- factor, previous, change, limit → the next factor

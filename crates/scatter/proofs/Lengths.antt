@@ -5,8 +5,8 @@ use mathlib.Core.List.{List}
 use lib.ListN.{length}
 use lib.Ieee.{Float}
 use Rattle.constants.specs.Arithmetic.{minus, times}
-use Rattle.model.specs.declared.link.Coefficients.{Coefficients}
-use Rattle.model.specs.declared.link.NodeAddition.{NodeAddition}
+use Rattle.coefficient.specs.declared.Coefficients.{Coefficients}
+use Rattle.coefficient.specs.declared.NodeAddition.{NodeAddition}
 use Rattle.nodes.specs.declared.numbering.Row.{Row}
 use Rattle.rows.specs.Rows.{onRow, offRow, onDiagonal, offBetween}
 use Rattle.rows.proofs.Lengths.{on-row-long, off-row-long, on-diagonal-long, between-long}

@@ -4,8 +4,8 @@ use mathlib.Core.Bool.{Bool, true, false}
 use mathlib.Core.List.{List}
 use lib.Ieee.{Float}
 use Rattle.constants.specs.Arithmetic.{minus, times}
-use Rattle.model.specs.declared.link.Coefficients.{Coefficients}
-use Rattle.model.specs.declared.link.NodeAddition.{NodeAddition}
+use Rattle.coefficient.specs.declared.Coefficients.{Coefficients}
+use Rattle.coefficient.specs.declared.NodeAddition.{NodeAddition}
 use Rattle.rows.specs.Rows.{onRow, offRow, onDiagonal, offBetween}
 use Rattle.scatter.specs.Scatter.{givenDiagonal, givenRow, fixedTerm, linkMatrix, linkRow}
 use Rattle.nodes.specs.declared.numbering.Row.{Row}

@@ -3,8 +3,8 @@ use mathlib.Core.Bool.{Bool, cond}
 use mathlib.Core.List.{List}
 use lib.Ieee.{Float}
 use Rattle.constants.specs.Arithmetic.{minus, times}
-use Rattle.model.specs.declared.link.Coefficients.{Coefficients}
-use Rattle.model.specs.declared.link.NodeAddition.{NodeAddition}
+use Rattle.coefficient.specs.declared.Coefficients.{Coefficients}
+use Rattle.coefficient.specs.declared.NodeAddition.{NodeAddition}
 unfoldable pub use Rattle.rows.specs.Rows.{onRow, offRow, onDiagonal, lower, offBetween}
 use Rattle.nodes.specs.declared.numbering.Row.{Row}
 

@@ -1,0 +1,2 @@
+-- The specs of `coefficient`.
+pub mod Link

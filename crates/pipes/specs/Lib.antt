@@ -1,0 +1,2 @@
+-- The specs of `pipes`.
+pub mod Pipe

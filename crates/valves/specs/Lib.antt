@@ -1,0 +1,2 @@
+-- The specs of `valves`.
+pub mod Valve
