@@ -1,3 +1,14 @@
 pub mod Bench
 pub mod Flags
 pub mod Unfilled
+pub mod Never
+pub mod Repairs
+pub mod Trials
+pub mod Bound
+pub mod Once
+pub mod Solves
+pub mod Counts
+pub mod Unmended
+pub mod Buffers
+pub mod Causes
+pub mod One

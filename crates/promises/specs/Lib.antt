@@ -1,3 +1,11 @@
 -- The specs of `promises`.
 pub mod Bench
 pub mod Unfilled
+pub mod Count
+pub mod Repairs
+pub mod Trials
+pub mod Bound
+pub mod Solves
+pub mod Marks
+pub mod Buffers
+pub mod Causes

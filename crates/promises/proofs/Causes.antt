@@ -1,0 +1,283 @@
+-- Demand 1: each number and place is told for its one cause, and in no other case. Assumes nothing.
+use Prim.Native.Nat.{ℕ, zero, suc, _+_, _-_, _≤_, _<_}
+use mathlib.Core.Path.{_≡_, refl, sym, ap, _∙_}
+use mathlib.Core.List.{List, [], _∷_}
+use mathlib.Core.Bool.{true, _&&_}
+use native.Mathlib.Omega.{arith}
+use lib.ListN.{length, getD}
+use lib.Dec.{leb}
+use lib.Ieee.{lt, le}
+use borrow.Author.Tests.{leb-true}
+use Rattle.float.specs.Bytes.{fromBytes}
+use Rattle.records.specs.Records.{byteAt, shortAt, optionsOf}
+use Rattle.fields.specs.Fields.{baseBounds, null, allWithin, optionsGood}
+use Rattle.fields.specs.declared.fields.Bounds.{Bounds}
+use Rattle.sheet.proofs.Laws.{and-left, and-right}
+use Rattle.refusals.specs.Refusals.{numberOf, placeOf}
+use Rattle.refusals.specs.declared.refusals.Refusal.{Refusal}
+use Rattle.refusals.specs.declared.refusals.Refusal.the-variants.{Unreadable, NodeCount, LinkCount, Field, Ends}
+use Rattle.sheet.specs.Read.{readOf}
+use Rattle.sheet.specs.declared.layout.Found.{Found}
+use Rattle.sheet.specs.declared.layout.Found.the-variants.{At, Nothing}
+use Rattle.sheet.specs.declared.reading.Net.{Net}
+use Rattle.sheet.specs.declared.reading.Reading.{Reading}
+use Rattle.sheet.specs.declared.reading.Reading.the-variants.{Good, Refused}
+use Rattle.accepted.specs.Accepted.{causeOf, numberIn}
+use Rattle.accepted.proofs.Accepts.{cause, accepts}
+use Rattle.state.specs.State.{State}
+use Rattle.repair.specs.declared.Damping.{Damping}
+use Rattle.repair.specs.declared.Entry.{Entry}
+use Rattle.repair.specs.declared.Entry.the-variants.{Freed, Grounded, Singular, Wild, Stepped, Converged}
+use Rattle.trial.specs.Trial.{Outcome, repairOf}
+use Rattle.entries.specs.Entries.{goingOf, none, written, tallied}
+use Rattle.entries.specs.declared.Ended.{Ended}
+use Rattle.entries.specs.declared.Ended.the-variants.{Balanced, Failed, Strayed, Limit}
+use Rattle.entries.specs.declared.Going.{Going}
+use Rattle.entries.specs.declared.Going.the-variants.{On, Over}
+use Rattle.entries.specs.declared.Tally.{Tally}
+use Rattle.runs.specs.Run.{Run, after, runWith}
+use Rattle.answers.specs.Answers.{Lent, Solved, failedOf, refusedOf, unsolved, delivered, told}
+use Rattle.solver.specs.Solve.{trialsOf, solvedWith, afterShort, afterRead, solveWith, solveOf}
+use Rattle.promises.specs.Trials.{Point, point, trialAt, runAt, startPoint, runIn}
+use Rattle.promises.specs.Solves.{shortIn, Runs}
+use Rattle.promises.specs.Causes.{endNumber, endPlace, Cause, sheet, short, ended, endBy, EndsBy}
+use Rattle.promises.proofs.Never.{other}
+use Rattle.promises.proofs.Solves.{comes, ways, tells}
+use Rattle.promises.proofs.Counts.{trials-are}
+
+module _ (s : List ℕ) (net : Net) (m : ℕ) (l : Lent) (t : State) (tally : Tally) (bytes : List ℕ) where
+  told-number : (z : Ended) → told s net m l t tally bytes z .answer .number ≡ endNumber z
+  unfolding told delivered unsolved failedOf endNumber
+  told-number Balanced = refl
+  told-number (Failed v) = refl
+  told-number (Strayed p) = refl
+  told-number Limit = refl
+
+  told-place : (z : Ended) → told s net m l t tally bytes z .answer .place ≡ endPlace m z
+  unfolding told delivered unsolved failedOf endPlace
+  told-place Balanced = refl
+  told-place (Failed v) = refl
+  told-place (Strayed p) = refl
+  told-place Limit = refl
+
+module _ (s : List ℕ) (l : Lent) where
+  by-sheet : (r : Refusal) → readOf s ≡ Refused r → solveOf s l ≡ refusedOf (numberOf r) (placeOf r) l
+  unfolding solveWith afterRead
+  by-sheet r e = rw e
+
+  by-buffer : (net : Net) (place : ℕ) → readOf s ≡ Good net → shortIn s net l ≡ At place → solveOf s l ≡ refusedOf 5 place l
+  unfolding solveWith afterRead afterShort shortIn
+  by-buffer net place e q = rw (e, q)
+
+  refused-number : (number place : ℕ) → solveOf s l ≡ refusedOf number place l → (solveOf s l .answer .number ≡ number) × (solveOf s l .answer .place ≡ place)
+  unfolding refusedOf failedOf
+  refused-number number place e = (ap (λ (o : Solved). o .answer .number) e, ap (λ (o : Solved). o .answer .place) e)
+
+  by-end : (net : Net) → Runs s l net → (solveOf s l .answer .number ≡ endNumber (runIn s net .ended)) × (solveOf s l .answer .place ≡ endPlace (trialsOf s) (runIn s net .ended))
+  by-end net w =
+      let r = runIn s net in
+      rw (comes repairOf s l net w, tells s net l) (
+        told-number s net (trialsOf s) l (r .state) (tallied none (r .entries)) (written 0 (r .entries) (l .entries)) (r .ended),
+        told-place s net (trialsOf s) l (r .state) (tallied none (r .entries)) (written 0 (r .entries) (l .entries)) (r .ended),
+      )
+
+  -- Demand 1: a number and a place are told where they have their cause,
+  pub told-of-cause : (number place : ℕ) → Cause s l number place → (solveOf s l .answer .number ≡ number) × (solveOf s l .answer .place ≡ place)
+  told-of-cause number place (sheet r e) = refused-number (numberOf r) (placeOf r) (by-sheet r e)
+  told-of-cause number place (short net p e q) = refused-number 5 p (by-buffer net p e q)
+  told-of-cause number place (ended net w) = by-end net w
+
+  -- and in no other case.
+  pub cause-of-told : Cause s l (solveOf s l .answer .number) (solveOf s l .answer .place)
+  unfolding refusedOf failedOf
+  cause-of-told =
+      ways repairOf s l (λ o. Cause s l (o .answer .number) (o .answer .place)) sheet short
+      (λ net w.
+      let r = runIn s net in
+      rw (
+        tells s net l,
+        told-number s net (trialsOf s) l (r .state) (tallied none (r .entries)) (written 0 (r .entries) (l .entries)) (r .ended),
+        told-place s net (trialsOf s) l (r .state) (tallied none (r .entries)) (written 0 (r .entries) (l .entries)) (r .ended),
+      )
+      (ended net w))
+
+-- ---- 1 to 4
+
+sheet-number : (s : List ℕ) → numberIn (readOf s) ≡ causeOf baseBounds s
+unfolding readOf
+sheet-number s = cause baseBounds s
+
+least-one : (r : Refusal) → 1 ≤ numberOf r
+unfolding numberOf
+least-one (Unreadable p) = omega arith
+least-one NodeCount = omega arith
+least-one LinkCount = omega arith
+least-one (Field p) = omega arith
+least-one (Ends p) = omega arith
+
+most-four : (r : Refusal) → numberOf r ≤ 4
+unfolding numberOf
+most-four (Unreadable p) = omega arith
+most-four NodeCount = omega arith
+most-four LinkCount = omega arith
+most-four (Field p) = omega arith
+most-four (Ends p) = omega arith
+
+end-past : (z : Ended) → 1 ≤ endNumber z → endNumber z ≤ 5 → ⊥
+unfolding endNumber
+end-past Balanced a b = omega arith
+end-past (Failed v) a b = omega arith
+end-past (Strayed p) a b = omega arith
+end-past Limit a b = omega arith
+
+-- the number and the place tell the end
+same-end : (m : ℕ) (y z : Ended) → endNumber y ≡ endNumber z → endPlace m y ≡ endPlace m z → y ≡ z
+unfolding endNumber endPlace
+same-end m Balanced Balanced e f = refl
+same-end m (Failed v) (Failed w) e f = ap (λ (i : ℕ). Failed (record { 0 = i })) f
+same-end m (Strayed p) (Strayed q) e f = ap Strayed f
+same-end m Limit Limit e f = refl
+same-end m Balanced (Failed w) e f = absurd (let y : ⊥ = omega arith in y)
+same-end m Balanced (Strayed q) e f = absurd (let y : ⊥ = omega arith in y)
+same-end m Balanced Limit e f = absurd (let y : ⊥ = omega arith in y)
+same-end m (Failed v) Balanced e f = absurd (let y : ⊥ = omega arith in y)
+same-end m (Failed v) (Strayed q) e f = absurd (let y : ⊥ = omega arith in y)
+same-end m (Failed v) Limit e f = absurd (let y : ⊥ = omega arith in y)
+same-end m (Strayed p) Balanced e f = absurd (let y : ⊥ = omega arith in y)
+same-end m (Strayed p) (Failed w) e f = absurd (let y : ⊥ = omega arith in y)
+same-end m (Strayed p) Limit e f = absurd (let y : ⊥ = omega arith in y)
+same-end m Limit Balanced e f = absurd (let y : ⊥ = omega arith in y)
+same-end m Limit (Failed w) e f = absurd (let y : ⊥ = omega arith in y)
+same-end m Limit (Strayed q) e f = absurd (let y : ⊥ = omega arith in y)
+
+module _ (s : List ℕ) (l : Lent) where
+  -- A sheet that has a cause of 1 to 4 is refused with that number,
+  pub refused-by-sheet : 1 ≤ causeOf baseBounds s → solveOf s l .answer .number ≡ causeOf baseBounds s
+  refused-by-sheet h = go (readOf s) refl
+    where
+      go : (r : Reading) → readOf s ≡ r → solveOf s l .answer .number ≡ causeOf baseBounds s
+      go (Refused r) e = told-of-cause s l (numberOf r) (placeOf r) (sheet r e) .0 ∙ sym (ap numberIn e) ∙ sheet-number s
+      go (Good net) e = let p : 0 ≡ causeOf baseBounds s = sym (ap numberIn e) ∙ sheet-number s in absurd (let y : ⊥ = omega arith in y)
+
+  -- and these numbers are given in no other case.
+  pub sheet-only : 1 ≤ solveOf s l .answer .number → solveOf s l .answer .number ≤ 4 → causeOf baseBounds s ≡ solveOf s l .answer .number
+  sheet-only a b = go (solveOf s l .answer .number) (solveOf s l .answer .place) (cause-of-told s l) a b
+    where
+      go : (n p : ℕ) → Cause s l n p → 1 ≤ n → n ≤ 4 → causeOf baseBounds s ≡ n
+      go n p (sheet r e) a b = sym (sheet-number s) ∙ ap numberIn e
+      go n p (short net q e f) a b = absurd (let y : ⊥ = omega arith in y)
+      go n p (ended net w) a b = absurd (end-past (runIn s net .ended) a (omega arith))
+
+  -- ---- 5: the lowest buffer that is too short, for an accepted sheet
+  pub short-only : solveOf s l .answer .number ≡ 5 → (net : Net) × ((readOf s ≡ Good net) × (shortIn s net l ≡ At (solveOf s l .answer .place)))
+  short-only a = go (solveOf s l .answer .number) (solveOf s l .answer .place) (cause-of-told s l) a
+    where
+      go : (n p : ℕ) → Cause s l n p → n ≡ 5 → (net : Net) × ((readOf s ≡ Good net) × (shortIn s net l ≡ At p))
+      go n p (sheet r e) a = absurd (let y : ⊥ = omega (arith, most-four r) in y)
+      go n p (short net q e f) a = (net, (e, f))
+      go n p (ended net w) a = absurd (end-past (runIn s net .ended) (omega arith) (omega arith))
+
+  -- ---- 0, 6, 7 and 8: the run ended so
+  pub run-only : (z : Ended) → solveOf s l .answer .number ≡ endNumber z → solveOf s l .answer .place ≡ endPlace (trialsOf s) z
+      → (net : Net) × (Runs s l net × (runIn s net .ended ≡ z))
+  run-only z a b = go (solveOf s l .answer .number) (solveOf s l .answer .place) (cause-of-told s l) a b
+    where
+      go : (n p : ℕ) → Cause s l n p → n ≡ endNumber z → p ≡ endPlace (trialsOf s) z → (net : Net) × (Runs s l net × (runIn s net .ended ≡ z))
+      go n p (sheet r e) a b = absurd (end-past z (omega (arith, least-one r)) (omega (arith, most-four r)))
+      go n p (short net q e f) a b = absurd (end-past z (omega arith) (omega arith))
+      go n p (ended net w) a b = (net, (w, same-end (trialsOf s) (runIn s net .ended) z a b))
+
+-- ---- how a run ends
+
+going-end : (d d' : Damping) (e : Entry) → goingOf d e ≡ On d' → endBy e ≡ Limit
+unfolding goingOf endBy
+going-end d d' (Freed i) h = refl
+going-end d d' (Grounded i) h = refl
+going-end d d' (Singular i) h = other (cc)
+going-end d d' (Wild p) h = other (cc)
+going-end d d' (Stepped x) h = refl
+going-end d d' Converged h = other (cc)
+
+over-end : (d : Damping) (z : Ended) (e : Entry) → goingOf d e ≡ Over z → endBy e ≡ z
+unfolding goingOf endBy
+over-end d z (Freed i) h = other (cc)
+over-end d z (Grounded i) h = other (cc)
+over-end d z (Singular i) h = cc
+over-end d z (Wild p) h = cc
+over-end d z (Stepped x) h = other (cc)
+over-end d z Converged h = cc
+
+over-limit : (d : Damping) (e : Entry) → goingOf d e ≡ Over Limit → ⊥
+unfolding goingOf
+over-limit d (Freed i) h = other (cc)
+over-limit d (Grounded i) h = other (cc)
+over-limit d (Singular i) h = other (cc)
+over-limit d (Wild p) h = other (cc)
+over-limit d (Stepped x) h = other (cc)
+over-limit d Converged h = other (cc)
+
+last-on : (e : Entry) (es : List Entry) (z : Ended) → 1 ≤ length es → z ≡ endBy (getD es (length es - 1) Converged) → z ≡ endBy (getD (e ∷ es) (length (e ∷ es) - 1) Converged)
+last-on e es z h q =
+    let p : length (e ∷ es) - 1 ≡ suc (length es - 1) = omega arith in
+    rw p q
+
+last-one : (e : Entry) → endBy (getD (e ∷ []) (length (e ∷ []) - 1) Converged) ≡ endBy e
+last-one e = refl
+
+module _ (s : List ℕ) (n k : ℕ) where
+  last-of : (m : ℕ) (d d' : Damping) (e : Entry) (t : State) → goingOf d e ≡ On d' → EndsBy m (runWith repairOf s n k m d' t)
+      → runWith repairOf s n k m d' t .ended ≡ endBy (getD (e ∷ runWith repairOf s n k m d' t .entries) (length (e ∷ runWith repairOf s n k m d' t .entries) - 1) Converged)
+  unfolding runWith
+  last-of zero d d' e t g w = sym (last-one e ∙ going-end d d' e g)
+  last-of (suc m) d d' e t g w =
+      let r = runWith repairOf s n k (suc m) d' t in
+      last-on e (r .entries) (r .ended) (w .some (omega arith)) (w .last (omega arith))
+
+  -- A run ends as its last entry tells, every earlier entry is one after which it goes on, and the limit is told only where all allowed trials were taken.
+  pub ends-by : (m : ℕ) (p : Point) → EndsBy m (runAt s n k m p)
+  unfolding runWith after
+  ends-by zero p = record { some = λ h. h; last = λ h. absurd (let y : ⊥ = omega arith in y); on = λ i h. absurd (let y : ⊥ = omega arith in y); limit = λ h. refl }
+  ends-by (suc m) p = go (trialAt s n k p) (goingOf (p .damping) (trialAt s n k p .entry)) refl (ends-by m)
+    where
+      go : (o : Outcome) (g : Going) → goingOf (p .damping) (o .entry) ≡ g → ((p : Point) → EndsBy m (runAt s n k m p)) → EndsBy (suc m) (after (o .entry) (o .state) g (runWith repairOf s n k m))
+      go o (On d') e ih =
+          let w = ih (point d' (o .state)) in
+          record {
+            some = λ h. omega arith;
+            last = λ h. last-of m (p .damping) d' (o .entry) (o .state) e w;
+            on = onward w;
+            limit = λ h. omega (arith, w .limit h);
+          }
+        where
+          onward : EndsBy m (runWith repairOf s n k m d' (o .state)) → (i : ℕ) → suc i < length (o .entry ∷ runWith repairOf s n k m d' (o .state) .entries)
+              → endBy (getD (o .entry ∷ runWith repairOf s n k m d' (o .state) .entries) i Converged) ≡ Limit
+          onward w zero h = going-end (p .damping) d' (o .entry) e
+          onward w (suc i) h = w .on i (omega arith)
+      go o (Over z) e ih =
+          record {
+            some = λ h. omega arith;
+            last = λ h. sym (last-one (o .entry) ∙ over-end (p .damping) z (o .entry) e);
+            on = λ i h. absurd (let y : ⊥ = omega arith in y);
+            limit = λ h. absurd (over-limit (p .damping) (o .entry) (e ∙ ap Over h));
+          }
+
+-- Of the solve of any sheet: the number and the place, which are those of its end, are told by its last entry.
+pub solve-ends-by : (s : List ℕ) (net : Net) → EndsBy (trialsOf s) (runIn s net)
+unfolding runIn
+solve-ends-by s net = ends-by s (net .nodes) (net .links) (trialsOf s) (startPoint s net)
+
+options-some : (b : Bounds) (s : List ℕ) → optionsGood b s ≡ true → 1 ≤ shortAt s 26
+unfolding optionsGood
+options-some b s h =
+    let e = allWithin b 3 s 2 && lt null (fromBytes s 2) && le null (fromBytes s 10) && le null (fromBytes s 18) in
+    let f = leb 1 (shortAt s 26) in
+    let g = leb (shortAt s 26) (b .trials) in
+    leb-true 1 (shortAt s 26) (and-right e f (and-left (e && f) g (and-left (e && f && g) (leb (byteAt s 28) (b .unit)) h)))
+
+some-trials : (s : List ℕ) (net : Net) → readOf s ≡ Good net → 1 ≤ trialsOf s
+unfolding readOf optionsOf
+some-trials s net h = options-some baseBounds s (accepts baseBounds s (net .nodes) (net .links) h .options)
+
+-- A solve that is not refused for its sheet or its buffers runs a trial.
+pub runs-a-trial : (s : List ℕ) (l : Lent) (net : Net) → Runs s l net → 1 ≤ solveOf s l .answer .trials
+runs-a-trial s l net w = omega (arith, trials-are s l net w, solve-ends-by s net .some (some-trials s net (w .read)))

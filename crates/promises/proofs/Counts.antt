@@ -1,0 +1,339 @@
+-- Demand 3: the trial count is the number of entries, freed and grounded are the counts of VF and GN in the record, every repair stands in it and it shows no other. Assumes nothing.
+use Prim.Native.Nat.{ℕ, zero, suc, _+_, _*_, _/_, _%_, _≤_, _<_}
+use mathlib.Core.Path.{_≡_, refl, sym, ap, _∙_}
+use mathlib.Core.List.{List, [], _∷_}
+use mathlib.Core.Bool.{Bool, true, false, cond, _&&_}
+use native.Mathlib.Omega.{arith}
+use lib.Dec.{eqb}
+use lib.ListN.{length, getD, set, length-set}
+use lib.Seq.{getD-set-same, getD-set-other}
+use lib.Ieee.{Float}
+use Rattle.records.specs.Records.{optionsOf}
+use Rattle.records.specs.declared.records.Options.{Options}
+use Rattle.damping.specs.Damping.{convergedOf, relativeChange}
+use Rattle.sheet.specs.declared.layout.Found.{Found}
+use Rattle.sheet.specs.declared.layout.Found.the-variants.{At, Nothing}
+use Rattle.sheet.specs.declared.reading.Net.{Net}
+use Rattle.state.specs.Wild.{wildPlace}
+use Rattle.state.proofs.Kept.{wild-below}
+use Rattle.update.specs.Update.{step, updateOf}
+use Rattle.update.specs.declared.Stats.{Stats}
+use Rattle.state.specs.State.{State, solvedHeads}
+use Rattle.repair.specs.declared.LinkIndex.{LinkIndex}
+use Rattle.nodes.specs.declared.numbering.NodeIndex.{NodeIndex}
+use Rattle.repair.specs.declared.Damping.{Damping}
+use Rattle.repair.specs.declared.Entry.{Entry}
+use Rattle.repair.specs.declared.Entry.the-variants.{Freed, Grounded, Singular, Wild, Stepped, Converged}
+use Rattle.trial.specs.Trial.{Repair, repairOf, Outcome, judged, verdict, stepOf, trialWith, trialOf}
+use Rattle.entries.specs.Entries.{goingOf, markOf, putOf, written, counted, tallied, none}
+use Rattle.entries.specs.declared.Ended.{Ended}
+use Rattle.entries.specs.declared.Ended.the-variants.{Balanced, Failed, Strayed, Limit}
+use Rattle.entries.specs.declared.Going.{Going}
+use Rattle.entries.specs.declared.Going.the-variants.{On, Over}
+use Rattle.entries.specs.declared.Mark.{Mark}
+use Rattle.entries.specs.declared.Tally.{Tally}
+use Rattle.entries.proofs.Laws.{put-long}
+use Rattle.runs.specs.Run.{after, runWith}
+use Rattle.answers.specs.Answers.{Lent, Solved, failedOf, refusedOf, unsolved, delivered, told}
+use Rattle.solver.specs.Solve.{trialsOf, solvedWith, solveWith, solveOf}
+use Rattle.solver.proofs.Laws.{network-of}
+use Rattle.promises.specs.Count.{count}
+use Rattle.promises.specs.Trials.{startPoint, runIn, pointIn}
+use Rattle.promises.specs.Solves.{Runs}
+use Rattle.promises.specs.Marks.{marked, Counted, Shown}
+use Rattle.promises.proofs.Never.{other, never}
+use Rattle.promises.proofs.Repairs as repairs
+use Rattle.promises.proofs.Trials.{solve-each-entry}
+use Rattle.promises.proofs.Bound.{stop-node}
+use Rattle.promises.proofs.Solves.{comes, ways, runs-enough, tells}
+
+-- ---- an entry's four bytes
+
+module _ (r : List ℕ) (i : ℕ) (m : Mark) where
+  put-before : (p : ℕ) → p < 4 * i → getD (putOf r i m) p 0 ≡ getD r p 0
+  unfolding putOf
+  put-before p h =
+      let x = set r (4 * i) (m .0) in
+      let y = set x (4 * i + 1) (m .1) in
+      let z = set y (4 * i + 2) (m .2 % 256) in
+      getD-set-other z (4 * i + 3) p (m .2 / 256 % 256) 0 (omega arith)
+      ∙ getD-set-other y (4 * i + 2) p (m .2 % 256) 0 (omega arith)
+      ∙ getD-set-other x (4 * i + 1) p (m .1) 0 (omega arith)
+      ∙ getD-set-other r (4 * i) p (m .0) 0 (omega arith)
+
+  put-past : (p : ℕ) → 4 * i + 4 ≤ p → getD (putOf r i m) p 0 ≡ getD r p 0
+  unfolding putOf
+  put-past p h =
+      let x = set r (4 * i) (m .0) in
+      let y = set x (4 * i + 1) (m .1) in
+      let z = set y (4 * i + 2) (m .2 % 256) in
+      getD-set-other z (4 * i + 3) p (m .2 / 256 % 256) 0 (omega arith)
+      ∙ getD-set-other y (4 * i + 2) p (m .2 % 256) 0 (omega arith)
+      ∙ getD-set-other x (4 * i + 1) p (m .1) 0 (omega arith)
+      ∙ getD-set-other r (4 * i) p (m .0) 0 (omega arith)
+
+  module _ (long : 4 * i + 4 ≤ length r) where
+    put-first : getD (putOf r i m) (4 * i) 0 ≡ m .0
+    unfolding putOf
+    put-first =
+        let x = set r (4 * i) (m .0) in
+        let y = set x (4 * i + 1) (m .1) in
+        let z = set y (4 * i + 2) (m .2 % 256) in
+        getD-set-other z (4 * i + 3) (4 * i) (m .2 / 256 % 256) 0 (omega arith)
+        ∙ getD-set-other y (4 * i + 2) (4 * i) (m .2 % 256) 0 (omega arith)
+        ∙ getD-set-other x (4 * i + 1) (4 * i) (m .1) 0 (omega arith)
+        ∙ getD-set-same r (4 * i) (m .0) 0 (omega arith)
+
+    put-second : getD (putOf r i m) (4 * i + 1) 0 ≡ m .1
+    unfolding putOf
+    put-second =
+        let x = set r (4 * i) (m .0) in
+        let y = set x (4 * i + 1) (m .1) in
+        let z = set y (4 * i + 2) (m .2 % 256) in
+        getD-set-other z (4 * i + 3) (4 * i + 1) (m .2 / 256 % 256) 0 (omega arith)
+        ∙ getD-set-other y (4 * i + 2) (4 * i + 1) (m .2 % 256) 0 (omega arith)
+        ∙ getD-set-same x (4 * i + 1) (m .1) 0 (omega (arith, length-set r (4 * i) (m .0)))
+
+    put-low : getD (putOf r i m) (4 * i + 2) 0 ≡ m .2 % 256
+    unfolding putOf
+    put-low =
+        let x = set r (4 * i) (m .0) in
+        let y = set x (4 * i + 1) (m .1) in
+        let z = set y (4 * i + 2) (m .2 % 256) in
+        getD-set-other z (4 * i + 3) (4 * i + 2) (m .2 / 256 % 256) 0 (omega arith)
+        ∙ getD-set-same y (4 * i + 2) (m .2 % 256) 0 (omega (arith, length-set r (4 * i) (m .0), length-set x (4 * i + 1) (m .1)))
+
+    put-high : getD (putOf r i m) (4 * i + 3) 0 ≡ m .2 / 256 % 256
+    unfolding putOf
+    put-high =
+        let x = set r (4 * i) (m .0) in
+        let y = set x (4 * i + 1) (m .1) in
+        let z = set y (4 * i + 2) (m .2 % 256) in
+        getD-set-same z (4 * i + 3) (m .2 / 256 % 256) 0 (omega (arith, length-set r (4 * i) (m .0), length-set x (4 * i + 1) (m .1), length-set y (4 * i + 2) (m .2 % 256)))
+
+-- later entries leave earlier bytes, and none reaches past the last
+written-before : (es : List Entry) (i : ℕ) (r : List ℕ) (p : ℕ) → p < 4 * i → getD (written i es r) p 0 ≡ getD r p 0
+unfolding written
+written-before [] i r p h = refl
+written-before (e ∷ es) i r p h = written-before es (suc i) (putOf r i (markOf e)) p (omega arith) ∙ put-before r i (markOf e) p h
+
+pub written-past : (es : List Entry) (i : ℕ) (r : List ℕ) (p : ℕ) → 4 * (i + length es) ≤ p → getD (written i es r) p 0 ≡ getD r p 0
+unfolding written
+written-past [] i r p h = refl
+written-past (e ∷ es) i r p h = written-past es (suc i) (putOf r i (markOf e)) p (omega arith) ∙ put-past r i (markOf e) p (omega arith)
+
+pub written-shows : (es : List Entry) (i : ℕ) (r : List ℕ) → 4 * (i + length es) ≤ length r → (j : ℕ) → j < length es → Shown (written i es r) (i + j) (getD es j Converged)
+unfolding written
+written-shows [] i r h j l = absurd (let y : ⊥ = omega arith in y)
+written-shows (e ∷ es) i r h zero l =
+    let x = putOf r i (markOf e) in
+    let p : i + 0 ≡ i = omega arith in
+    let long : 4 * i + 4 ≤ length r = omega arith in
+    rw p
+    (record {
+      first = written-before es (suc i) x (4 * i) (omega arith) ∙ put-first r i (markOf e) long;
+      second = written-before es (suc i) x (4 * i + 1) (omega arith) ∙ put-second r i (markOf e) long;
+      low = written-before es (suc i) x (4 * i + 2) (omega arith) ∙ put-low r i (markOf e) long;
+      high = written-before es (suc i) x (4 * i + 3) (omega arith) ∙ put-high r i (markOf e) long;
+    })
+written-shows (e ∷ es) i r h (suc j) l =
+    let p : i + suc j ≡ suc i + j = omega arith in
+    rw p (written-shows es (suc i) (putOf r i (markOf e)) (omega (arith, put-long r i (markOf e))) j (omega arith))
+
+-- ---- counting
+
+unfoldable has : ℕ → ℕ → Entry → Bool
+has a b e = eqb (markOf e .0) a && eqb (markOf e .1) b
+
+unfoldable having : ℕ → ℕ → List Entry → ℕ
+having a b [] = 0
+having a b (e ∷ es) = cond {A = ℕ} (has a b e) (suc (having a b es)) (having a b es)
+
+count-front : (n : ℕ) (f : ℕ → Bool) → count (suc n) f ≡ cond {A = ℕ} (f 0) (suc (count n (λ i. f (suc i)))) (count n (λ i. f (suc i)))
+unfolding count
+count-front zero f = refl
+count-front (suc n) f = rw (count-front n f) (go (f (suc n)) (f 0) (count n (λ i. f (suc i))))
+  where
+    go : (a b : Bool) (c : ℕ) → cond {A = ℕ} a (suc (cond {A = ℕ} b (suc c) c)) (cond {A = ℕ} b (suc c) c) ≡ cond {A = ℕ} b (suc (cond {A = ℕ} a (suc c) c)) (cond {A = ℕ} a (suc c) c)
+    go true true c = refl
+    go true false c = refl
+    go false true c = refl
+    go false false c = refl
+
+count-entries : (a b : ℕ) (es : List Entry) (f : ℕ → Bool) → ((j : ℕ) → j < length es → f j ≡ has a b (getD es j Converged)) → count (length es) f ≡ having a b es
+unfolding having count
+count-entries a b [] f h = refl
+count-entries a b (e ∷ es) f h =
+    count-front (length es) f ∙ rw (h 0 (omega arith), count-entries a b es (λ i. f (suc i)) (λ j l. h (suc j) (omega arith)))
+
+count-marks : (a b : ℕ) (es : List Entry) (r : List ℕ) → 4 * length es ≤ length r → count (length es) (marked a b (written 0 es r)) ≡ having a b es
+unfolding marked has
+count-marks a b es r h =
+    count-entries a b es (marked a b (written 0 es r))
+    (λ j l.
+    let p : 0 + j ≡ j = omega arith in
+    let w = rw p at (written-shows es 0 r (omega arith) j l) in
+    rw (w .first, w .second))
+
+record Agrees (t : Tally) (es : List Entry) : Type 0 where
+  trials : tallied t es .trials ≡ t .trials + length es
+  freed : tallied t es .freed ≡ t .freed + having 86 70 es
+  grounded : tallied t es .grounded ≡ t .grounded + having 71 78 es
+
+agrees : (t : Tally) (es : List Entry) → Agrees t es
+unfolding tallied counted having has markOf
+agrees t [] = record { trials = omega arith; freed = omega arith; grounded = omega arith }
+agrees t (Freed i ∷ es) = let h = agrees (counted t (Freed i)) es in record { trials = omega arith; freed = omega arith; grounded = omega arith }
+agrees t (Grounded i ∷ es) = let h = agrees (counted t (Grounded i)) es in record { trials = omega arith; freed = omega arith; grounded = omega arith }
+agrees t (Singular i ∷ es) = let h = agrees (counted t (Singular i)) es in record { trials = omega arith; freed = omega arith; grounded = omega arith }
+agrees t (Wild p ∷ es) = let h = agrees (counted t (Wild p)) es in record { trials = omega arith; freed = omega arith; grounded = omega arith }
+agrees t (Stepped d ∷ es) = let h = agrees (counted t (Stepped d)) es in record { trials = omega arith; freed = omega arith; grounded = omega arith }
+agrees t (Converged ∷ es) = let h = agrees (counted t Converged) es in record { trials = omega arith; freed = omega arith; grounded = omega arith }
+
+pub tally-trials : (es : List Entry) → tallied none es .trials ≡ length es
+tally-trials es = omega (arith, agrees none es .trials)
+
+-- a run has at most as many entries as it may take trials
+pub run-short : (repair : Repair) (s : List ℕ) (n k m : ℕ) (d : Damping) (t : State) → length (runWith repair s n k m d t .entries) ≤ m
+unfolding runWith after
+run-short repair s n k zero d t = omega arith
+run-short repair s n k (suc m) d t = go (trialWith repair s n k d t) (goingOf d (trialWith repair s n k d t .entry)) (run-short repair s n k m)
+  where
+    go : (o : Outcome) (g : Going) → ((d : Damping) (t : State) → length (runWith repair s n k m d t .entries) ≤ m)
+        → length (after (o .entry) (o .state) g (runWith repair s n k m) .entries) ≤ suc m
+    go o (On d') ih = let h = ih d' (o .state) in omega arith
+    go o (Over z) ih = omega arith
+
+-- ---- the whole solve
+
+-- whatever its end, a run's tally and bytes are told
+told-tally : (s : List ℕ) (net : Net) (m : ℕ) (l : Lent) (t : State) (tally : Tally) (bytes : List ℕ) (z : Ended)
+    → (P : ℕ → ℕ → ℕ → List ℕ → Type 0) → P (tally .trials) (tally .freed) (tally .grounded) bytes
+    → P (told s net m l t tally bytes z .answer .trials) (told s net m l t tally bytes z .answer .freed) (told s net m l t tally bytes z .answer .grounded) (told s net m l t tally bytes z .lent .entries)
+unfolding told delivered unsolved failedOf
+told-tally s net m l t tally bytes Balanced P h = h
+told-tally s net m l t tally bytes (Failed n) P h = h
+told-tally s net m l t tally bytes (Strayed p) P h = h
+told-tally s net m l t tally bytes Limit P h = h
+
+refused-counts : (number place : ℕ) (l : Lent) → Counted (refusedOf number place l)
+unfolding refusedOf failedOf count
+refused-counts number place l = record { freed = refl; grounded = refl }
+
+module _ (s : List ℕ) (l : Lent) where
+  room : (net : Net) → Runs s l net → 4 * length (runIn s net .entries) ≤ length (l .entries)
+  unfolding runIn startPoint
+  room net w = omega (arith, run-short repairOf s (net .nodes) (net .links) (trialsOf s) (startPoint s net .damping) (startPoint s net .state), runs-enough s l net w .entries)
+
+  -- what holds of the run's tally and bytes holds of the solve's
+  in-solve : (net : Net) → Runs s l net → (P : ℕ → ℕ → ℕ → List ℕ → Type 0)
+      → P (tallied none (runIn s net .entries) .trials) (tallied none (runIn s net .entries) .freed) (tallied none (runIn s net .entries) .grounded) (written 0 (runIn s net .entries) (l .entries))
+      → P (solveOf s l .answer .trials) (solveOf s l .answer .freed) (solveOf s l .answer .grounded) (solveOf s l .lent .entries)
+  in-solve net w P h =
+      rw (comes repairOf s l net w, tells s net l)
+      (told-tally s net (trialsOf s) l (runIn s net .state) (tallied none (runIn s net .entries)) (written 0 (runIn s net .entries) (l .entries)) (runIn s net .ended) P h)
+
+  run-counts : (net : Net) → Runs s l net → Counted (solveOf s l)
+  run-counts net w =
+      let es = runIn s net .entries in
+      let a = agrees none es in
+      let n : tallied none es .trials ≡ length es = omega (arith, a .trials) in
+      let f : tallied none es .freed ≡ having 86 70 es = omega (arith, a .freed) in
+      let g : tallied none es .grounded ≡ having 71 78 es = omega (arith, a .grounded) in
+      record {
+        freed = in-solve net w (λ trials freed grounded bytes. freed ≡ count trials (marked 86 70 bytes)) (rw (n, f) (sym (count-marks 86 70 es (l .entries) (room net w))));
+        grounded = in-solve net w (λ trials freed grounded bytes. grounded ≡ count trials (marked 71 78 bytes)) (rw (n, g) (sym (count-marks 71 78 es (l .entries) (room net w))));
+      }
+
+  -- Demand 3: freed and grounded count the VF and GN among the entries of the record. For every sheet and all buffers.
+  pub counts : Counted (solveOf s l)
+  counts =
+      ways repairOf s l Counted
+      (λ r e. refused-counts _ _ l) (λ net place e q. refused-counts 5 place l)
+      (λ net w. rw (comes repairOf s l net w) at (run-counts net w))
+
+  module _ (net : Net) (w : Runs s l net) where
+    -- The trial count is the number of entries.
+    pub trials-are : solveOf s l .answer .trials ≡ length (runIn s net .entries)
+    trials-are = in-solve net w (λ trials freed grounded bytes. trials ≡ length (runIn s net .entries)) (omega (arith, agrees none (runIn s net .entries) .trials))
+
+    -- Every trial's entry stands in the record, in its place.
+    pub shown : (i : ℕ) → i < length (runIn s net .entries) → Shown (solveOf s l .lent .entries) i (getD (runIn s net .entries) i Converged)
+    shown i h =
+        let p : 0 + i ≡ i = omega arith in
+        in-solve net w (λ trials freed grounded bytes. Shown bytes i (getD (runIn s net .entries) i Converged))
+        (rw p at (written-shows (runIn s net .entries) 0 (l .entries) (omega (arith, room net w)) i h))
+
+-- ---- the record shows no other repair
+
+module _ (bytes : List ℕ) (i : ℕ) (e : Entry) (w : Shown bytes i e) where
+  shows : (a b : ℕ) → marked a b bytes i ≡ has a b e
+  unfolding marked has
+  shows a b = rw (w .first, w .second)
+
+vf : (e : Entry) → has 86 70 e ≡ true → (j : LinkIndex) × (e ≡ Freed j)
+unfolding has markOf
+vf (Freed j) h = (j, refl)
+vf (Grounded v) h = never h
+vf (Singular v) h = never h
+vf (Wild p) h = never h
+vf (Stepped d) h = never h
+vf Converged h = never h
+
+gn : (e : Entry) → has 71 78 e ≡ true → (v : NodeIndex) × (e ≡ Grounded v)
+unfolding has markOf
+gn (Freed j) h = never h
+gn (Grounded v) h = (v, refl)
+gn (Singular v) h = never h
+gn (Wild p) h = never h
+gn (Stepped d) h = never h
+gn Converged h = never h
+
+module _ (s : List ℕ) (l : Lent) (net : Net) (w : Runs s l net) (i : ℕ) (h : i < length (runIn s net .entries)) where
+  -- An entry marked VF is that of a trial that freed a valve, and one marked GN that of a trial that grounded a node: the record shows no other repair.
+  pub vf-freed : marked 86 70 (solveOf s l .lent .entries) i ≡ true → (j : LinkIndex) × (getD (runIn s net .entries) i Converged ≡ Freed j)
+  vf-freed e = vf (getD (runIn s net .entries) i Converged) (sym (shows (solveOf s l .lent .entries) i (getD (runIn s net .entries) i Converged) (shown s l net w i h) 86 70) ∙ e)
+
+  pub gn-grounded : marked 71 78 (solveOf s l .lent .entries) i ≡ true → (v : NodeIndex) × (getD (runIn s net .entries) i Converged ≡ Grounded v)
+  gn-grounded e = gn (getD (runIn s net .entries) i Converged) (sym (shows (solveOf s l .lent .entries) i (getD (runIn s net .entries) i Converged) (shown s l net w i h) 71 78) ∙ e)
+
+-- ---- the two bytes hold the number: it is below 192
+
+judged-small : (o : Options) (d : Damping) (m : Stats) → markOf (judged o d m) .2 < 192
+unfolding judged markOf
+judged-small o d m = go (convergedOf (relativeChange (m .moved) (m .total) (o .accuracy)) (o .accuracy) (m .changed) (m .largest) (o .unit) (o .change)) _
+  where
+    go : (b : Bool) (x : Damping) → markOf (cond b Converged (Stepped x)) .2 < 192
+    go true x = omega arith
+    go false x = omega arith
+
+verdict-small : (f : Found) (o : Options) (d : Damping) (m : Stats) → ((p : ℕ) → f ≡ At p → p < 192) → markOf (verdict f o d m) .2 < 192
+unfolding verdict markOf
+verdict-small (At p) o d m h = h p refl
+verdict-small Nothing o d m h = judged-small o d m
+
+module _ (s : List ℕ) (n k : ℕ) (d : Damping) (t : State) (nodes : n ≤ 64) (links : k ≤ 128) where
+  step-small : (g y x : List Float) → markOf (stepOf s n k d t g y x .entry) .2 < 192
+  unfolding stepOf
+  step-small g y x =
+      let a = solvedHeads s x n (t .heads) in
+      let u = updateOf s n k (step a g y (d .factor)) (t .flows) (t .statuses) in
+      verdict-small (wildPlace n k a (u .flows)) (optionsOf s) d (u .stats) (λ p e. omega (arith, wild-below n k a (u .flows) p nodes e, links))
+
+  trial-small : markOf (trialOf s n k d t .entry) .2 < 192
+  unfolding markOf
+  trial-small =
+      repairs.ways s n k d t (λ o. markOf (o .entry) .2 < 192)
+      (λ j w. omega (arith, w .lowest .one, links)) (λ v w. omega (arith, stop-node s n k t v (w .stops) .0, nodes))
+      (λ v w. omega (arith, stop-node s n k t v (w .stops) .0, nodes)) step-small
+
+-- An entry's number can be read from its two bytes, the lower first.
+pub number-shown : (s : List ℕ) (l : Lent) (net : Net) → Runs s l net → (i : ℕ) → i < length (runIn s net .entries)
+    → getD (solveOf s l .lent .entries) (4 * i + 2) 0 + 256 * getD (solveOf s l .lent .entries) (4 * i + 3) 0 ≡ markOf (getD (runIn s net .entries) i Converged) .2
+number-shown s l net w i h =
+    let x = shown s l net w i h in
+    let c = network-of s net (w .read) in
+    let p = pointIn s net i in
+    let small = trial-small s (net .nodes) (net .links) (p .damping) (p .state) (c .nodes) (c .links) in
+    let same = ap (λ (e : Entry). markOf e .2) (solve-each-entry s net i h) in
+    omega (arith, x .low, x .high, small, same)

@@ -1,0 +1,198 @@
+-- Demand 3, where nothing is repaired: the solve is that of the solver that repairs nothing and stops at its first failed factorization. Assumes nothing.
+use Prim.Native.Nat.{ℕ, zero, suc, _+_, _≤_}
+use mathlib.Core.Path.{_≡_, refl, sym, ap, _∙_}
+use mathlib.Core.List.{List, [], _∷_}
+use mathlib.Core.Bool.{Bool, true, false, cond}
+use native.Mathlib.Omega.{arith}
+use lib.ListN.{length, getD}
+use lib.Ieee.{Float}
+use Rattle.sheet.specs.declared.layout.Found.{Found}
+use Rattle.sheet.specs.declared.layout.Found.the-variants.{At, Nothing}
+use Rattle.sheet.specs.Read.{readOf}
+use Rattle.sheet.specs.declared.reading.Net.{Net}
+use Rattle.sheet.specs.declared.reading.Reading.{Reading}
+use Rattle.sheet.specs.declared.reading.Reading.the-variants.{Good, Refused}
+use Rattle.linear.specs.Factorization.{factorOf}
+use Rattle.linear.specs.declared.factorization.Factored.{Factored}
+use Rattle.linear.specs.declared.factorization.Factored.the-variants.{Done, Stopped}
+use Rattle.nodes.specs.Numbering.{before, nodeNumbered}
+use Rattle.assembly.specs.Assembly.{System}
+use Rattle.state.specs.State.{State}
+use Rattle.repair.specs.Repair.{ground, free, regulatorAt, repairAt}
+use Rattle.repair.specs.declared.Damping.{Damping}
+use Rattle.repair.specs.declared.Entry.{Entry}
+use Rattle.repair.specs.declared.Entry.the-variants.{Freed, Grounded, Singular, Wild, Stepped, Converged}
+use Rattle.trial.specs.Trial.{Outcome, outcome, repairOf, noRepair, factored, systemOf, trialWith}
+use Rattle.entries.specs.Entries.{dampingStart, goingOf, counted, tallied, none}
+use Rattle.entries.specs.declared.Ended.{Ended}
+use Rattle.entries.specs.declared.Ended.the-variants.{Balanced, Failed, Strayed, Limit}
+use Rattle.entries.specs.declared.Going.{Going}
+use Rattle.entries.specs.declared.Going.the-variants.{On, Over}
+use Rattle.entries.specs.declared.Tally.{Tally}
+use Rattle.runs.specs.Run.{after, runWith, finish}
+use Rattle.answers.specs.Answers.{Lent, shortOf, failedOf, unsolved, delivered, told}
+use Rattle.solver.specs.Solve.{trialsOf, startOf, runOf, solvedWith, afterShort, afterRead, solveWith, solveOf}
+use Rattle.promises.specs.Repairs.{stopNode, stopOf, mends}
+use Rattle.promises.specs.Count.{count}
+use Rattle.promises.specs.Marks.{marked}
+use Rattle.promises.proofs.Never.{other, never}
+use Rattle.promises.proofs.Counts.{counts}
+
+-- ---- one trial
+
+module _ (s : List ℕ) (n k : ℕ) (t : State) (v : ℕ) where
+  marked-same : (b : Bool) → getD (t .grounded) v false ≡ b → regulatorAt s n k (t .statuses) v ≡ Nothing → mends (repairOf s n k t v .entry) ≡ false → repairOf s n k t v ≡ noRepair s n k t v
+  unfolding repairOf repairAt free ground noRepair mends
+  marked-same true g r = rw (r, g) (λ e. refl)
+  marked-same false g r = rw (r, g) (λ e. never (sym e))
+
+  found-same : (f : Found) → regulatorAt s n k (t .statuses) v ≡ f → mends (repairOf s n k t v .entry) ≡ false → repairOf s n k t v ≡ noRepair s n k t v
+  unfolding repairOf repairAt free mends
+  found-same (At j) r = rw r (λ e. never (sym e))
+  found-same Nothing r = marked-same (getD (t .grounded) v false) refl r
+
+  repair-same : mends (repairOf s n k t v .entry) ≡ false → repairOf s n k t v ≡ noRepair s n k t v
+  repair-same = found-same (regulatorAt s n k (t .statuses) v) refl
+
+module _ (s : List ℕ) (n k : ℕ) (d : Damping) (t : State) where
+  factored-same : (a : System) (l : List Float) (f : Factored) → mends (factored repairOf s n k d t a l f .entry) ≡ false → factored repairOf s n k d t a l f ≡ factored noRepair s n k d t a l f
+  unfolding factored
+  factored-same a l (Stopped u) e = repair-same s n k t (nodeNumbered s n (u .0)) e
+  factored-same a l Done e = refl
+
+  trial-same : mends (trialWith repairOf s n k d t .entry) ≡ false → trialWith repairOf s n k d t ≡ trialWith noRepair s n k d t
+  unfolding trialWith
+  trial-same e =
+      let a = systemOf s n k t in
+      factored-same a (factorOf (before s n) (a .matrix) .matrix) (factorOf (before s n) (a .matrix) .answer) e
+
+-- ---- a run
+
+unfoldable unmended : List Entry → Bool
+unmended [] = true
+unmended (e ∷ es) = cond (mends e) false (unmended es)
+
+first-unmended : (e : Entry) (es : List Entry) → unmended (e ∷ es) ≡ true → (mends e ≡ false) × (unmended es ≡ true)
+unfolding unmended
+first-unmended e es h = go (mends e) refl h
+  where
+    go : (b : Bool) → mends e ≡ b → cond b false (unmended es) ≡ true → (mends e ≡ false) × (unmended es ≡ true)
+    go true p h = never h
+    go false p h = (p, h)
+
+run-same : (s : List ℕ) (n k m : ℕ) (d : Damping) (t : State) → unmended (runWith repairOf s n k m d t .entries) ≡ true → runWith repairOf s n k m d t ≡ runWith noRepair s n k m d t
+unfolding runWith after
+run-same s n k zero d t h = refl
+run-same s n k (suc m) d t h =
+    go (trialWith repairOf s n k d t) (trialWith noRepair s n k d t) (goingOf d (trialWith repairOf s n k d t .entry)) refl (run-same s n k m) (trial-same s n k d t) h
+  where
+    go : (o o' : Outcome) (g : Going) → goingOf d (o .entry) ≡ g
+        → ((d : Damping) (t : State) → unmended (runWith repairOf s n k m d t .entries) ≡ true → runWith repairOf s n k m d t ≡ runWith noRepair s n k m d t)
+        → (mends (o .entry) ≡ false → o ≡ o')
+        → unmended (after (o .entry) (o .state) g (runWith repairOf s n k m) .entries) ≡ true
+        → after (o .entry) (o .state) g (runWith repairOf s n k m) ≡ after (o' .entry) (o' .state) (goingOf d (o' .entry)) (runWith noRepair s n k m)
+    go o o' (On d') e ih same h =
+        let f = first-unmended (o .entry) (runWith repairOf s n k m d' (o .state) .entries) h in
+        rw (← same (f .0), e, ih d' (o .state) (f .1))
+    go o o' (Over z) e ih same h =
+        let f = first-unmended (o .entry) [] h in
+        rw (← same (f .0), e)
+
+-- ---- the tally tells whether an entry mends
+
+record Least (t u : Tally) : Type 0 where
+  freed : t .freed ≤ u .freed
+  grounded : t .grounded ≤ u .grounded
+
+least-counted : (t : Tally) (e : Entry) → Least t (counted t e)
+unfolding counted
+least-counted t (Freed i) = record { freed = omega arith; grounded = omega arith }
+least-counted t (Grounded i) = record { freed = omega arith; grounded = omega arith }
+least-counted t (Singular i) = record { freed = omega arith; grounded = omega arith }
+least-counted t (Wild p) = record { freed = omega arith; grounded = omega arith }
+least-counted t (Stepped d) = record { freed = omega arith; grounded = omega arith }
+least-counted t Converged = record { freed = omega arith; grounded = omega arith }
+
+least-tallied : (t : Tally) (es : List Entry) → Least t (tallied t es)
+unfolding tallied
+least-tallied t [] = record { freed = omega arith; grounded = omega arith }
+least-tallied t (e ∷ es) =
+    let a = least-counted t e in
+    let b = least-tallied (counted t e) es in
+    record { freed = omega arith; grounded = omega arith }
+
+tally-unmended : (t : Tally) (es : List Entry) → tallied t es .freed ≡ t .freed → tallied t es .grounded ≡ t .grounded → unmended es ≡ true
+unfolding tallied counted unmended mends
+tally-unmended t [] f g = refl
+tally-unmended t (Freed i ∷ es) f g = let b = least-tallied (counted t (Freed i)) es in absurd (let z : ⊥ = omega arith in z)
+tally-unmended t (Grounded i ∷ es) f g = let b = least-tallied (counted t (Grounded i)) es in absurd (let z : ⊥ = omega arith in z)
+tally-unmended t (Singular i ∷ es) f g = tally-unmended (counted t (Singular i)) es f g
+tally-unmended t (Wild p ∷ es) f g = tally-unmended (counted t (Wild p)) es f g
+tally-unmended t (Stepped d ∷ es) f g = tally-unmended (counted t (Stepped d)) es f g
+tally-unmended t (Converged ∷ es) f g = tally-unmended (counted t Converged) es f g
+
+-- ---- the whole solve
+
+module _ (s : List ℕ) (net : Net) (m : ℕ) (l : Lent) (t : State) (tally : Tally) (bytes : List ℕ) where
+  told-freed : (z : Ended) → told s net m l t tally bytes z .answer .freed ≡ tally .freed
+  unfolding told delivered unsolved failedOf
+  told-freed Balanced = refl
+  told-freed (Failed n) = refl
+  told-freed (Strayed p) = refl
+  told-freed Limit = refl
+
+  told-grounded : (z : Ended) → told s net m l t tally bytes z .answer .grounded ≡ tally .grounded
+  unfolding told delivered unsolved failedOf
+  told-grounded Balanced = refl
+  told-grounded (Failed n) = refl
+  told-grounded (Strayed p) = refl
+  told-grounded Limit = refl
+
+module _ (s : List ℕ) (l : Lent) where
+  solved-same : (net : Net) → solvedWith repairOf s net l .answer .freed ≡ 0 → solvedWith repairOf s net l .answer .grounded ≡ 0 → solvedWith repairOf s net l ≡ solvedWith noRepair s net l
+  unfolding solvedWith runOf finish
+  solved-same net f g =
+      let r = runOf repairOf s net (l .entries) in
+      let es = runWith repairOf s (net .nodes) (net .links) (trialsOf s) dampingStart (startOf s net) .entries in
+      let p = run-same s (net .nodes) (net .links) (trialsOf s) dampingStart (startOf s net)
+      (tally-unmended none es
+      (sym (told-freed s net (trialsOf s) l (r .state) (r .ran .tally) (r .bytes) (r .ran .ended)) ∙ f)
+      (sym (told-grounded s net (trialsOf s) l (r .state) (r .ran .tally) (r .bytes) (r .ran .ended)) ∙ g)) in
+      rw p
+
+  short-same : (net : Net) (f : Found) → afterShort repairOf s net l f .answer .freed ≡ 0 → afterShort repairOf s net l f .answer .grounded ≡ 0 → afterShort repairOf s net l f ≡ afterShort noRepair s net l f
+  unfolding afterShort
+  short-same net (At p) f g = refl
+  short-same net Nothing f g = solved-same net f g
+
+  read-same : (r : Reading) → afterRead repairOf s l r .answer .freed ≡ 0 → afterRead repairOf s l r .answer .grounded ≡ 0 → afterRead repairOf s l r ≡ afterRead noRepair s l r
+  unfolding afterRead
+  read-same (Refused r) f g = refl
+  read-same (Good net) f g =
+      short-same net (shortOf net (trialsOf s) (length (l .heads)) (length (l .demands)) (length (l .flows)) (length (l .statuses)) (length (l .entries)) (length (l .scratch))) f g
+
+  -- Demand 3: an answer that counts no freed valve and no grounded node is that of the solver that repairs nothing, with the same results and the same record.
+  pub unmended-is-bare : solveOf s l .answer .freed ≡ 0 → solveOf s l .answer .grounded ≡ 0 → solveOf s l ≡ solveWith noRepair s l
+  unfolding solveWith
+  unmended-is-bare f g = read-same (readOf s) f g
+
+  -- The same by the bytes of the record: no VF and no GN stands in it.
+  pub unmarked-is-bare : count (solveOf s l .answer .trials) (marked 86 70 (solveOf s l .lent .entries)) ≡ 0 → count (solveOf s l .answer .trials) (marked 71 78 (solveOf s l .lent .entries)) ≡ 0
+      → solveOf s l ≡ solveWith noRepair s l
+  unmarked-is-bare f g = unmended-is-bare (counts s l .freed ∙ f) (counts s l .grounded ∙ g)
+
+-- ---- the solver that repairs nothing
+
+bare-stopped : (s : List ℕ) (n k : ℕ) (d : Damping) (t : State) (v : ℕ) (a : System) (l : List Float) (f : Factored) → stopNode s n f ≡ At v → factored noRepair s n k d t a l f ≡ outcome (Singular (record { 0 = v })) t
+unfolding factored noRepair stopNode
+bare-stopped s n k d t v a l (Stopped u) e = let p : nodeNumbered s n (u .0) ≡ v = cc in rw p
+bare-stopped s n k d t v a l Done e = other (cc)
+
+-- It stops at its first failed factorization: a run of it that comes to one has that entry and no more.
+pub bare-stops : (s : List ℕ) (n k m : ℕ) (d : Damping) (t : State) (v : ℕ) → stopOf s n k t ≡ At v
+    → runWith noRepair s n k (suc m) d t ≡ record { entries = Singular (record { 0 = v }) ∷ []; ended = Failed (record { 0 = v }); state = t }
+unfolding runWith after trialWith stopOf goingOf
+bare-stops s n k m d t v e =
+    let a = systemOf s n k t in
+    let p = bare-stopped s n k d t v a (factorOf (before s n) (a .matrix) .matrix) (factorOf (before s n) (a .matrix) .answer) e in
+    rw p
