@@ -17,7 +17,7 @@ import power_tables  # noqa: E402
 import sheets  # noqa: E402
 from sheet_format import LINK_KINDS, STATUSES, Sheet, decode  # noqa: E402
 
-LIST = os.path.join(ROOT, "tests", "list")
+LIST = os.path.join(ROOT, "crates", "replay")
 EXAMPLES = os.path.join(ROOT, "examples")
 
 
@@ -36,7 +36,7 @@ def read(path):
 
 
 def stored_text():
-    return read(os.path.join(LIST, "listings.txt")).decode("ascii")
+    return read(os.path.join(LIST, "stdout")).decode("ascii")
 
 
 class StoredList(unittest.TestCase):
@@ -49,7 +49,7 @@ class StoredList(unittest.TestCase):
 
     def test_the_generator_makes_it_anew(self):
         made = sheets.pack_many(case.data for case in self.cases)
-        self.assertEqual(read(os.path.join(LIST, "sheets.bin")), made)
+        self.assertEqual(read(os.path.join(LIST, "stdin")), made)
 
     def test_one_listing_a_case(self):
         self.assertGreaterEqual(len(self.cases), 400)
@@ -204,7 +204,7 @@ class Oracle(unittest.TestCase):
         self.assertEqual([plain.count(" %s " % s) for s in ("S1", "S2", "S3", "S4")], [1, 1, 0, 0])
 
     def test_the_whole_list(self):
-        data = read(os.path.join(LIST, "sheets.bin"))
+        data = read(os.path.join(LIST, "stdin"))
         found, stored = oracle.run("recipe", data, "--many"), stored_text()
         if found != stored:
             for case, a, b in zip(sheets.stored(), oracle.split(found), oracle.split(stored)):

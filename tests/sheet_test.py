@@ -14,7 +14,7 @@ from stored import read
 
 class Reading(unittest.TestCase):
     def test_agrees_with_the_oracle(self):
-        listings = oracle.split(read("tests/list/listings.txt").decode())
+        listings = oracle.split(read("crates/replay/stdout").decode())
         cases = sheets.stored()
         self.assertEqual(len(listings), len(cases))
         for case, listing in zip(cases, listings):

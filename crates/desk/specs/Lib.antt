@@ -1,0 +1,2 @@
+-- The specs of `desk`.
+pub mod Desk

@@ -1,0 +1,2 @@
+-- The specs of `listing_text`.
+pub mod Listing

@@ -1,0 +1,2 @@
+-- The specs of `stream`.
+pub mod Stream

@@ -1,0 +1,67 @@
+/* The network solver, as C calls it: link with libdesk.a (rt staticlib desk).
+
+   A buffer is its start and its length in entries. An empty buffer may have any start, a null one too.
+   Buffers must not overlap one another or the sheet. Nothing is kept between two calls, and nothing but
+   these buffers is written. */
+#ifndef DESK_H
+#define DESK_H
+
+#include <stddef.h>
+#include <stdint.h>
+
+#ifdef __cplusplus
+extern "C" {
+#endif
+
+/* Solves the network of a sheet: one OP record, then all ND, then all LK, and nothing after. Any bytes of
+   any length are taken; a sheet that is not good is refused by its number.
+
+   Lent, with the entries that each needs (n nodes, k links, m allowed trials):
+     heads      n   on 0: the head of each node, in feet
+     demands    n   on 0: the demand of each node, in cubic feet per second
+     flows      k   on 0: the flow of each link, in cubic feet per second
+     statuses   k   on 0: the status of each link, 0 Closed, 1 Open, 2 Active, 3 TempClosed, 4 FixedClosed,
+                    5 FixedOpen, 6 XPressure, 7 Xhead
+     record    4m   an entry of 4 bytes a trial: a mark of two letters and a number, the lower byte first.
+                    VF link freed, GN node grounded, SG node of number 6, NF place of number 7, OK 0 for the
+                    converged trial, ST 0 for another stepped trial
+     scratch 4096   room to work in
+   A good sheet has 1 to 64 nodes, 0 to 128 links and 1 to 200 trials, so that 64, 64, 128, 128, 800 and 4,096
+   entries are enough for every sheet.
+
+   Told in any case:
+     counts      number, place, trials, freed valves, grounded nodes
+     totals      total demand, total supply, error
+
+     number                                                          place
+     0  converged                                                    0
+     1  a record can't be read as the layout says                    its byte offset
+     2  node count wrong, else link count wrong                      0, 1
+     3  a field outside its bounds or codes                          offset of the first such record
+     4  a link from a node to itself; a PRV that ends at, or a PSV
+        that starts at, a reservoir, a tank or a disabled junction   offset of the first
+     5  heads, demands, flows, statuses, record or scratch too
+        short                                                        0 to 5, the lowest
+     6  singular                                                     node
+     7  after a stepped trial a head or a flow is NaN, infinite or
+        at least 2^64 in magnitude                                   first such node, else 64 + first such link
+     8  trial limit used up                                          the limit
+
+   Changed: on 1 to 5 nothing lent, and trials, freed and grounded are 0. On 6, 7 and 8 only record and scratch.
+   On 0 heads, demands, flows, statuses, record and scratch; entries past n or k stay. On 0, 6, 7 and 8 record
+   holds an entry for each of the trials told, bytes past them stay, and the first 4,096 numbers of scratch are
+   +0.0, later ones stay. All but 0 tell totals of +0.0. */
+void desk_solve(const uint8_t *sheet, size_t sheet_length,
+                double *heads, size_t heads_length,
+                double *demands, size_t demands_length,
+                double *flows, size_t flows_length,
+                uint8_t *statuses, size_t statuses_length,
+                uint8_t *record, size_t record_length,
+                double *scratch, size_t scratch_length,
+                uint64_t counts[5], double totals[3]);
+
+#ifdef __cplusplus
+}
+#endif
+
+#endif

@@ -1,0 +1,48 @@
+"""The proved solver against the oracle, on sheets made by seed: every byte of every listing. `./test`
+runs this once all is proved, since it needs the program replay."""
+import os
+import sys
+import time
+import unittest
+
+ROOT = os.path.dirname(os.path.dirname(os.path.dirname(os.path.abspath(__file__))))
+sys.path.insert(0, os.path.join(ROOT, "tools"))
+
+import oracle  # noqa: E402
+import programs  # noqa: E402
+import sheets  # noqa: E402
+
+# kind, seed, count: other seeds than the stored list's
+ASKED = (("real", 2101, 2200), ("wild", 2102, 1600), ("damaged", 2103, 1000), ("seeded", 2104, 600))
+
+
+@unittest.skipIf(oracle.lacking(), "to build the oracle there is lacking: " + ", ".join(oracle.lacking()))
+class AtScale(unittest.TestCase):
+    @classmethod
+    def setUpClass(cls):
+        status, said = oracle.build("recipe")
+        if status != 0:
+            raise AssertionError(said)
+
+    def listings(self, kind, seed, count):
+        cases = sheets.generate(kind, seed, count)
+        data = [case.data for case in cases]
+        ours = oracle.split(programs.run("replay", sheets.pack_many(data)).decode("ascii"))
+        return ours, oracle.listings("recipe", data)
+
+    def test_every_byte_is_the_oracles(self):
+        began, numbers, total = time.time(), set(), 0
+        for kind, seed, count in ASKED:
+            ours, theirs = self.listings(kind, seed, count)
+            self.assertEqual(len(ours), count)
+            for i, (one, other) in enumerate(zip(ours, theirs)):
+                self.assertEqual(one, other, "%s, seed %d, sheet %d" % (kind, seed, i))
+                numbers.add(one.split(" ", 2)[1])
+            total += count
+        self.assertGreaterEqual(total, 5000)
+        self.assertTrue(numbers >= {"0", "1", "2", "3", "4", "7", "8"}, numbers)
+        print("%d sheets, numbers %s, %.0f s" % (total, " ".join(sorted(numbers)), time.time() - began))
+
+
+if __name__ == "__main__":
+    unittest.main()
