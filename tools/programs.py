@@ -1,0 +1,33 @@
+"""Runs the proved programs that `rt` built, as `rt` itself runs them: by the kit's loader and, on a
+processor that is not x86-64, under its emulator."""
+import os
+import platform
+import shutil
+import subprocess
+
+ROOT = os.path.dirname(os.path.dirname(os.path.abspath(__file__)))
+
+
+def path(name):
+    return os.path.join(ROOT, "target", "bin", name)
+
+
+def toolchain():
+    found = shutil.which("rt")
+    if found is None:
+        raise FileNotFoundError("rt, the kit's command, is not on the path")
+    home = os.environ.get("RATTLE_HOME") or os.path.dirname(os.path.dirname(os.path.realpath(found)))
+    return os.path.join(home, "on", platform.machine(), "toolchain")
+
+
+def command(name, *args):
+    tools = toolchain()
+    emulator = os.path.join(tools, "bin", "qemu-x86_64")
+    loader = [os.path.join(tools, "lib", "ld-linux-x86-64.so.2"), "--library-path", os.path.join(tools, "lib")]
+    return ([emulator] if os.path.exists(emulator) else []) + loader + [path(name), *args]
+
+
+def run(name, data, *args):
+    """What a program writes for these bytes on its standard input."""
+    done = subprocess.run(command(name, *args), input=data, stdout=subprocess.PIPE, check=True)
+    return done.stdout
