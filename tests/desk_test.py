@@ -89,6 +89,12 @@ class FirstLines(unittest.TestCase):
         line = answer("B04-regulator-to-disabled").first_line()
         self.assertIn("with 2 repairs: the PRV at link 0 (1 -> 0) was freed and node 0 was tied", line)
 
+    def test_a_valve_freed_again(self):
+        data, text = BY_NAME["june-both-repaired"]
+        text = text.replace("A 0 0 13 1 0", "A 0 0 13 2 0").replace("T ST 0", "T VF 2", 1)
+        line = desk_answer.Answer("x", data, text).first_line()
+        self.assertIn("but with 2 repairs: the PRV at link 2 (2 -> 3) was freed 2 times;", line)
+
     def test_undetermined_without_a_repair(self):
         self.check("june-undetermined", "solved in 2 trials, but nothing determines the heads of nodes 1 and 2"
                    + NOT_FOR_SALE, 3)
@@ -104,7 +110,8 @@ class FirstLines(unittest.TestCase):
                 doubtful = bool(found.listing.freed or found.listing.grounded or found.undetermined)
                 self.assertEqual(found.first_line().endswith(NOT_FOR_SALE), doubtful, name)
                 self.assertEqual(found.exit_status, 3 if doubtful else 0, name)
-                self.assertEqual((len(found.freed), len(found.grounded)),
+                marks = [mark for mark, _ in found.entries]
+                self.assertEqual((marks.count("VF"), marks.count("GN")),
                                  (found.listing.freed, found.listing.grounded), name)
             else:
                 self.assertTrue(found.first_line().startswith("refused, number "), name)
@@ -339,7 +346,8 @@ class Pictures(unittest.TestCase):
 
     def test_a_name_with_signs_of_its_own(self):
         data, text = BY_NAME["june-undetermined"]
-        ElementTree.fromstring(desk_plot.picture(desk_answer.Answer("<a&b>.sheet", data, text)))
+        for name in ("<a&b>.sheet", "\x01\udc80.sheet"):
+            ElementTree.fromstring(desk_plot.picture(desk_answer.Answer(name, data, text)).encode())
 
 
 class TextForm(unittest.TestCase):
@@ -365,6 +373,12 @@ class TextForm(unittest.TestCase):
         s.junction(elevation=12.0 / 0.3048, demand=1.0)
         s.valve("PRV", 0, 1, setting=43.33 / 0.4333, diameter=0.5, flow=1.0)
         self.assertEqual(data, s.encode())
+
+    def test_max_flow_change_is_kept_in_the_flow_unit(self):
+        def kept(line):
+            return sheets.decode(self.sheet("reservoir a head 9 ft\noptions " + line))[0][2]["max_flow_change"]
+        self.assertEqual(kept("max-flow-change 2.3 LPS flow-unit LPS"), 2.3)
+        self.assertAlmostEqual(kept("flow-unit GPM max-flow-change 1 cfs"), 448.831)
 
     def test_flags_statuses_and_every_kind(self):
         data = self.sheet("tank t elevation 9 ft head 12 ft max-level 8 ft min-level 1 ft overflow\n"
@@ -418,8 +432,8 @@ class TextForm(unittest.TestCase):
                              "its end must be a junction in service, since a PRV holds the head there"),
                             ("options trials 201", "trials is 201 but must be 1 to 200"),
                             ("options trials 2.5", "trials must be 1 to 200"),
-                            ("options max-flow-change 1 GPM",
-                             "max-flow-change is kept in the sheet's flow unit, CFS")):
+                            ("options flow-unit ACF", "ACF is no flow unit; there are CFS, GPM, MGD, IMGD, "
+                             "AFD, LPS, LPM, MLD, CMS, CMH, CMD")):
             self.assertEqual(self.mistakes(start + line), [(3, words)])
         self.assertEqual(self.mistakes(""), [(1, "a sheet needs a node")])
         many = "".join("junction n%d elevation 0 ft\n" % k for k in range(65))

@@ -29,8 +29,8 @@ class Answer:
         return desk_network.undetermined(self.nodes, self.links, self.listing.statuses, self.listing.flows)
 
     def repaired(self, mark):
-        """The links freed (VF) or the nodes grounded (GN), in the order of the record."""
-        return [number for found, number in self.entries if found == mark]
+        """The links freed (VF) or the nodes grounded (GN), each once, in the order of the record."""
+        return list(dict.fromkeys(number for found, number in self.entries if found == mark))
 
     @property
     def freed(self):
@@ -66,13 +66,19 @@ class Answer:
         doubts = self.repair_words() + self.undetermined_words()
         return line if not doubts else "%s, but %s; %s" % (line, "; ".join(doubts), NOT_FOR_SALE)
 
+    def freed_words(self, number):
+        link = self.links[number]
+        # a valve that was freed may close, regulate again and be freed once more
+        times = self.entries.count(("VF", number))
+        return "the %s at link %d (%d -> %d) was freed%s" % (
+            LINK_KINDS[link["kind"]], number, link["start"], link["end"], "" if times == 1 else " %d times" % times)
+
     def repair_words(self):
-        repairs = ["%s at link %d (%d -> %d) was freed" % (
-            "the " + LINK_KINDS[self.links[i]["kind"]], i, self.links[i]["start"], self.links[i]["end"])
-            for i in self.freed]
+        repairs = [self.freed_words(i) for i in self.freed]
         repairs += ["node %d was tied to a reservoir that is not there" % i for i in self.grounded]
-        count = "a repair" if len(repairs) == 1 else counted(len(repairs), "repair")
-        return ["with %s: %s" % (count, listed(repairs))] if repairs else []
+        count = self.listing.freed + self.listing.grounded
+        return ["with %s: %s" % ("a repair" if count == 1 else counted(count, "repair"), listed(repairs))
+                ] if repairs else []
 
     def undetermined_words(self):
         if not self.undetermined:

@@ -192,7 +192,9 @@ def legend(answer, frame):
 
 def title(answer, width):
     """The drawing, and the height it takes."""
-    drawn = [text(16, 24, "Pressures of " + os.path.basename(answer.name), "t")]
+    # some characters that a file's name may have are forbidden in XML
+    name = "".join(c if c.isprintable() else "?" for c in os.path.basename(answer.name))
+    drawn = [text(16, 24, "Pressures of " + name, "t")]
     y = 24
     for words in textwrap.wrap(answer.first_line(), int((width - 32) / 7.3)):
         y += LINE

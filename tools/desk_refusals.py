@@ -105,7 +105,8 @@ def of_fields(number, place, mark, count, fields, faults):
     record = title(mark, count, fields)
     told = [(name, fields[name], must) for name, must in faults]
     wrong = ["%s is %r but must be %s" % (in_words(name), value, must) for name, value, must in told]
-    mend = "change its " + " and its ".join(in_words(name) for name, _, _ in told)
+    mend = "correct its %s where the sheet was made; ./desk --explain SHEET shows the whole record" % (
+        " and its ".join(in_words(name) for name, _, _ in told))
     if not told:
         wrong, mend = ["which field cannot be told"], "look at its fields: ./desk --explain SHEET"
     return Refusal(number, place, "%s: %s" % (record, "; ".join(wrong)), mend, record, place, told)

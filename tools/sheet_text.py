@@ -20,7 +20,7 @@ BARE = None
 SETTINGS = {"PRV": PRESSURE, "PSV": PRESSURE, "PBV": PRESSURE, "FCV": FLOW, "TCV": BARE, "PCV": PERCENT}
 # figures, flags, and the figures that must be there, of each kind of record
 FIGURES = {
-    "options": {"accuracy": BARE, "damping-limit": BARE, "max-flow-change": FLOW, "trials": BARE},
+    "options": {"accuracy": BARE, "trials": BARE, "damping-limit": BARE, "max-flow-change": FLOW},
     "junction": {"elevation": HEIGHT, "demand": FLOW, "head": HEIGHT},
     "reservoir": {"elevation": HEIGHT, "demand": FLOW, "head": HEIGHT},
     "tank": {"elevation": HEIGHT, "head": HEIGHT, "max-level": HEIGHT, "min-level": HEIGHT},
@@ -76,15 +76,15 @@ def figure(name, words, units):
     return float(text) / units[unit.lower()]
 
 
-def fields_of(kind, words):
+def fields_of(kind, words, **other_units):
     """The figures, flags, status and flow unit of a line, by name."""
-    found = {}
+    found, figures = {}, dict(FIGURES[kind], **other_units)
     while words:
         name = words.pop(0).lower()
         if name in found:
             raise Mistake("%s is given twice" % name)
-        if name in FIGURES[kind]:
-            found[name] = figure(name, words, FIGURES[kind][name])
+        if name in figures:
+            found[name] = figure(name, words, figures[name])
         elif name in FLAGS.get(kind, ()):
             found[name] = 1
         elif name == "status" and kind in LINK_KINDS:
@@ -102,6 +102,19 @@ def fields_of(kind, words):
 def allowed(kind):
     extra = ["status"] if kind in LINK_KINDS else ["flow-unit"] if kind == "options" else []
     return list(FIGURES[kind]) + FLAGS.get(kind, []) + extra
+
+
+def flow_unit(words):
+    """The flow unit that an options line names; asked for first, since max-flow-change is kept in it."""
+    for name, unit in zip(words, words[1:]):
+        if name.lower() == "flow-unit":
+            return one_of(UNITS, unit, "flow unit")
+    return "CFS"
+
+
+def counted_in(unit):
+    """Every flow unit, seen from one of them; from itself it is exactly 1."""
+    return {name: per / FLOW[unit.lower()] for name, per in FLOW.items()}
 
 
 def underscored(found):
@@ -148,19 +161,14 @@ class Scheme:
         if self.options_line is not None:
             raise Mistake("options were given in line %d already" % self.options_line)
         self.options_line, self.lines[b"OP"] = line, [line]
-        before = list(words)
-        found = fields_of("options", words)
-        unit = found.pop("flow-unit", "CFS")
-        if "max-flow-change" in found:
-            # the sheet keeps this one figure in its own flow unit
-            at = [word.lower() for word in before].index("max-flow-change")
-            if before[at + 2].lower() != unit.lower():
-                raise Mistake("max-flow-change is kept in the sheet's flow unit, " + unit)
-            found["max-flow-change"] = float(before[at + 1])
-        if not found.get("trials", 1.0).is_integer() or not 0 <= found.get("trials", 1.0) <= 0xffff:
+        unit = flow_unit(words)
+        found = fields_of("options", words, **{"max-flow-change": counted_in(unit)})
+        trials = found.get("trials", 40.0)
+        if not trials.is_integer() or not 0 <= trials <= 0xffff:
             raise Mistake("trials must be 1 to %d" % sheet_bounds.MOST_TRIALS)
-        found["trials"] = int(found.get("trials", 40))
-        self.sheet.op.update(underscored(found), unit=UNITS.index(unit))
+        found.update({"trials": int(trials), "unit": UNITS.index(unit)})
+        found.pop("flow-unit", None)
+        self.sheet.op.update(underscored(found))
 
     def node(self, kind, line, words):
         name = take(words, "the node's name")
