@@ -292,6 +292,10 @@ class Refusals(unittest.TestCase):
         s.reservoir()
         refusal = desk_refusals.explain(s.encode(), 3, 29)
         self.assertEqual(refusal.why, "node 0 (reservoir): which field cannot be told")
+        for number, place in ((3, 30), (6, 40), (7, 70), (9, 0)):
+            refusal = desk_refusals.explain(s.encode(), number, place)
+            self.assertEqual((refusal.number, refusal.place, refusal.why),
+                             (number, place, "what is wrong there cannot be told"))
 
 
 class Json(unittest.TestCase):
@@ -343,6 +347,11 @@ class Pictures(unittest.TestCase):
             self.assertIn(word, " ".join(june.split()))
         self.assertIn("head that nothing determines", self.words("june-undetermined"))
         self.assertIn("grounded", self.words("B15-no-links"))
+
+    def test_the_picture_in_the_papers(self):
+        data, text = BY_NAME["june-both-repaired"]
+        made = desk_plot.picture(desk_answer.Answer("june.sheet", data, text))
+        self.assertEqual(read("docs/june.svg").decode(), made)
 
     def test_a_name_with_signs_of_its_own(self):
         data, text = BY_NAME["june-undetermined"]

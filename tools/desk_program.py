@@ -26,6 +26,9 @@ def solve(data):
     try:
         if not os.path.exists(programs.path(NAME)):
             build()
-        return programs.run(NAME, data).decode("ascii")
+        text = programs.run(NAME, data).decode("ascii", "replace")
     except (OSError, subprocess.CalledProcessError) as error:
         raise NotToBeHad("the program `%s` does not run: %s" % (NAME, error)) from error
+    if not text.startswith("A "):
+        raise NotToBeHad("the program `%s` printed no listing" % NAME)
+    return text

@@ -26,7 +26,7 @@ class Refusal:
     def __init__(self, number, place, why, mend, record=None, offset=None, fields=()):
         self.number, self.place, self.why, self.mend = number, place, why, mend
         self.record, self.offset, self.fields = record, offset, list(fields)
-        self.meaning = MEANINGS[number]
+        self.meaning = MEANINGS.get(number, "a number that this desk does not know")
 
 
 def title(mark, number, fields=None):
@@ -166,4 +166,9 @@ EXPLAIN = {1: unreadable, 2: wrong_count, 3: out_of_bounds, 4: wrong_ends, 5: to
 
 
 def explain(data, number, place):
-    return EXPLAIN[number](data, place)
+    try:
+        return EXPLAIN[number](data, place)
+    except (IndexError, KeyError, ValueError):
+        # the program decides; what it says is told even where it cannot be followed here
+        return Refusal(number, place, "what is wrong there cannot be told",
+                       "look at the records: ./desk --explain SHEET")
