@@ -5,7 +5,7 @@ import os
 import textwrap
 from html import escape
 
-from desk_network import along
+from desk_network import HOLDS, along, in_service
 from desk_words import METRES_PER_FOOT, fixed
 from sheet_format import LINK_KINDS, NODE_KINDS
 
@@ -119,6 +119,22 @@ def bar(answer, frame, node):
     yield text(x, frame.bottom + 16, str(node), "d" if node in answer.grounded else "", "middle")
 
 
+def set_heads(answer, frame):
+    """(node, head) of what each PRV and PSV in service is set to hold, where the picture reaches it."""
+    for link in answer.links:
+        side = HOLDS.get(LINK_KINDS[link["kind"]])
+        if side and in_service(link, answer.nodes):
+            node = link[side]
+            head = link["setting"] + answer.nodes[node]["elevation"]
+            if not frame.outside(head):
+                yield node, head
+
+
+def set_mark(x1, x2, y):
+    """Dashes on white, to be seen on a bar and beside it."""
+    return line(x1, y, x2, y, "white", 4) + line(x1, y, x2, y, INK, 2, "5 3")
+
+
 def bracket(answer, frame, number, level):
     """A freed valve, over the two nodes it stands between."""
     link = answer.links[number]
@@ -154,7 +170,7 @@ def swatch(fill, edge="none", dashes=""):
     return lambda x, y: box(x, y - 10, 16, 11, fill, edge, dashes)
 
 
-def legend_items(answer):
+def legend_items(answer, frame):
     """(drawing at a place, words) of everything that the picture shows."""
     kinds = {NODE_KINDS[node["kind"]] for i, node in enumerate(answer.nodes)
              if i not in answer.undetermined and answer.pressure(i) >= 0}
@@ -164,6 +180,8 @@ def legend_items(answer):
     if any(answer.pressure(i) < 0 for i in range(len(answer.nodes)) if i not in answer.undetermined):
         yield swatch(NEGATIVE), "pressure below 0 (head under the elevation)"
     yield (lambda x, y: line(x, y - 4, x + 16, y - 4, GROUND, 2.4)), "elevation"
+    if any(set_heads(answer, frame)):
+        yield (lambda x, y: set_mark(x, x + 16, y - 4)), "head that a PRV or PSV is set to hold"
     if answer.undetermined:
         yield swatch("url(#hatch)", "#b86a00", "4 3"), "? head that nothing determines"
     if answer.grounded:
@@ -175,7 +193,7 @@ def legend_items(answer):
 def legend(answer, frame):
     """The drawing, and the height it takes."""
     x, y, drawn = LEFT, frame.bottom + 62, []
-    for draw, words in legend_items(answer):
+    for draw, words in legend_items(answer, frame):
         wide = 28 + 6.7 * len(words)
         if x > LEFT and x + wide > frame.width - 10:
             x, y = LEFT, y + LINE + 2
@@ -225,6 +243,8 @@ def picture(answer):
     drawn += axes(answer, frame)
     for node in frame.order:
         drawn += bar(answer, frame, node)
+    for node, head in set_heads(answer, frame):
+        drawn.append(set_mark(frame.x(node) - frame.slot / 2, frame.x(node) + frame.slot / 2, frame.y(head)))
     for level, number in enumerate(answer.freed):
         drawn += bracket(answer, frame, number, level)
     below, height = legend(answer, frame)
