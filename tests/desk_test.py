@@ -30,8 +30,11 @@ import sheets
 from sheet_format import STATUSES, Sheet, bits
 from stored import read
 
+# the stored list's listings: with the program that replays them, or by themselves
+LISTINGS = next(name for name in ("crates/replay/stdout", "tests/list/listings.txt")
+                if os.path.exists(os.path.join(TOP, name)))
 CASES = sheets.stored()
-TEXTS = listings.split(read("tests/list/listings.txt").decode())
+TEXTS = listings.split(read(LISTINGS).decode())
 BY_NAME = {case.name: (case.data, text) for case, text in zip(CASES, TEXTS)}
 BY_DATA = {case.data: text for case, text in zip(CASES, TEXTS)}
 BY_DATA[read("examples/refused.sheet")] = "A 3 168 0 0 0\n"
