@@ -7,6 +7,7 @@ TOP = os.path.dirname(os.path.dirname(os.path.abspath(__file__)))
 sys.path.insert(0, os.path.join(TOP, "tools"))
 
 import oracle
+import sheet_bounds
 import sheet_reading
 import sheets
 from stored import read
@@ -19,7 +20,7 @@ class Reading(unittest.TestCase):
         self.assertEqual(len(listings), len(cases))
         for case, listing in zip(cases, listings):
             number, place = (int(x) for x in listing.split()[1:3])
-            kind, x, y = sheet_reading.reading(case.data)
+            kind, x, y = sheet_bounds.reading(case.data)
             if 1 <= number <= 4:
                 self.assertEqual((kind, x, y), ("R", number, place), case.name)
             else:
@@ -40,7 +41,7 @@ class Reading(unittest.TestCase):
         cuts = sheet_reading.cuts()
         starts = [0, 29, 74, 119, 168]
         for n, data in enumerate(cuts):
-            kind, number, place = sheet_reading.reading(data)
+            kind, number, place = sheet_bounds.reading(data)
             if n in starts[1:]:
                 whole = {29: ("R", 2, 0), 74: ("G", 1, 0), 119: ("G", 2, 0), 168: ("G", 2, 1)}[n]
                 self.assertEqual((kind, number, place), whole)

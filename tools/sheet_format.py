@@ -16,6 +16,9 @@ LINK_KINDS = ("pipe", "PRV", "PSV", "PBV", "FCV", "TCV", "PCV")
 STATUSES = ("Closed", "Open", "Active", "TempClosed", "FixedClosed",
             "FixedOpen", "XPressure", "Xhead")
 UNITS = ("CFS", "GPM", "MGD", "IMGD", "AFD", "LPS", "LPM", "MLD", "CMS", "CMH", "CMD")
+# how many of each flow unit make a cubic foot per second
+PER_CFS = (1.0, 448.831, 0.64632, 0.5382, 1.9837, 28.317, 1699.0, 2.4466, 0.028317,
+           101.94, 2446.6)
 
 # mark: struct layout after the mark, field names
 LAYOUT = {

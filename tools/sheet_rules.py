@@ -2,14 +2,11 @@
 repairs, refusals 6 to 8, damping, and the open points B01 to B30 that have no
 place among the refusals.
 """
-from sheet_format import LINK_KINDS, STATUSES, UNITS, Case, Sheet, next_down, next_up
+from sheet_format import LINK_KINDS, PER_CFS, STATUSES, UNITS, Case, Sheet, next_down, next_up
 from sheet_refusals import LIMIT, TINY, between, changed, example, pair
 
 HEAD_TOLERANCE = 0.0005
 FLOW_TOLERANCE = 0.0001
-# cubic feet per second to each unit, in the order of the codes
-PER_CFS = (1.0, 448.831, 0.64632, 0.5382, 1.9837, 28.317, 1699.0, 2.4466, 0.028317,
-           101.94, 2446.6)
 
 
 def units():

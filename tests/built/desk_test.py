@@ -1,0 +1,60 @@
+"""`./desk` on every example through the proved program. Run once everything is proved:
+
+    python3 -m unittest discover -s tests/built -p '*_test.py'
+"""
+import json
+import os
+import subprocess
+import unittest
+
+TOP = os.path.dirname(os.path.dirname(os.path.dirname(os.path.abspath(__file__))))
+NOT_FOR_SALE = "; these pressures must not be sold on"
+# first line and exit status of each example
+EXPECTED = {
+    "document01": ("solved in 2 trials, but with a repair: node 1 was tied to a reservoir that is not there; "
+                   "nothing determines the head of node 1" + NOT_FOR_SALE, 3),
+    "june": ("solved in 13 trials, but with a repair: the PRV at link 2 (2 -> 3) was freed" + NOT_FOR_SALE, 3),
+    "june-undetermined": ("solved in 2 trials, but nothing determines the heads of nodes 1 and 2"
+                          + NOT_FOR_SALE, 3),
+    "june-unrepaired": ("solved in 8 trials", 0),
+    "looped": ("solved in 5 trials", 0),
+    "night": ("solved in 7 trials", 0),
+    "refused": ("refused, number 3 at place 168: link 1 (pipe 0 -> 7): end is 7 but must be the number of a "
+                "node, 0 to 1", 1),
+}
+
+
+def example(name):
+    return os.path.join("examples", name + ".sheet")
+
+
+def desk(*args):
+    done = subprocess.run(["./desk", *args], cwd=TOP, stdout=subprocess.PIPE, universal_newlines=True, check=False)
+    return done.returncode, done.stdout
+
+
+class Desk(unittest.TestCase):
+    def test_every_example_is_expected(self):
+        found = {os.path.splitext(name)[0] for name in os.listdir(os.path.join(TOP, "examples"))
+                 if name.endswith(".sheet")}
+        self.assertEqual(found, set(EXPECTED))
+
+    def test_first_lines_and_exit_statuses(self):
+        for name, (line, status) in EXPECTED.items():
+            got, out = desk(example(name))
+            self.assertEqual((out.splitlines()[0], got), (line, status), name)
+
+    def test_the_readme_shows_the_june_page(self):
+        with open(os.path.join(TOP, "README.md"), encoding="utf-8") as readme:
+            self.assertIn(desk(example("june"))[1], readme.read())
+
+    def test_all_at_once_as_json(self):
+        names = sorted(EXPECTED)
+        status, out = desk("--json", *map(example, names))
+        self.assertEqual(status, 3)
+        self.assertEqual([(found["first_line"], found["exit_status"]) for found in json.loads(out)],
+                         [EXPECTED[name] for name in names])
+
+
+if __name__ == "__main__":
+    unittest.main()

@@ -1,0 +1,114 @@
+"""A sheet, the listing that the proved program gave for it, and what a desk must know of the two."""
+import desk_network
+import desk_refusals
+import sheet_bounds
+from desk_words import Units, counted, link_words, listed, node_words, numbered
+from listings import Listing
+from sheet_format import LINK_KINDS
+
+# exit statuses
+CLEAN, REFUSED, BAD_USE, DOUBTFUL = 0, 1, 2, 3
+NOT_FOR_SALE = "these pressures must not be sold on"
+
+
+class Answer:
+    def __init__(self, name, data, text):
+        self.name, self.listing = name, Listing(text)
+        self.solved = self.listing.number == 0
+        found, _ = sheet_bounds.records(data)
+        self.nodes = [fields for _, mark, fields in found if mark == b"ND"]
+        self.links = [fields for _, mark, fields in found if mark == b"LK"]
+        self.entries = [(mark, int(number)) for mark, number in
+                        (entry.split(" ") for entry in self.listing.record)]
+        self.refusal = None if self.solved else desk_refusals.explain(
+            data, self.listing.number, self.listing.place)
+        self.units = Units(found[0][2]["unit"]) if self.solved else None
+        self.undetermined = self.find_undetermined() if self.solved else []
+
+    def find_undetermined(self):
+        return desk_network.undetermined(self.nodes, self.links, self.listing.statuses, self.listing.flows)
+
+    def repaired(self, mark):
+        """The links freed (VF) or the nodes grounded (GN), each once, in the order of the record."""
+        return list(dict.fromkeys(number for found, number in self.entries if found == mark))
+
+    @property
+    def freed(self):
+        return self.repaired("VF")
+
+    @property
+    def grounded(self):
+        return self.repaired("GN")
+
+    @property
+    def clean(self):
+        return self.solved and not (self.freed or self.grounded or self.undetermined)
+
+    @property
+    def exit_status(self):
+        return REFUSED if not self.solved else CLEAN if self.clean else DOUBTFUL
+
+    def pressure(self, node):
+        """In feet of water."""
+        return self.listing.heads[node] - self.nodes[node]["elevation"]
+
+    def node(self, number):
+        return node_words(number, self.nodes[number])
+
+    def link(self, number):
+        return link_words(number, self.links[number])
+
+    def first_line(self):
+        if not self.solved:
+            return "refused, number %d at place %d: %s" % (
+                self.refusal.number, self.refusal.place, self.refusal.why)
+        line = "solved in " + counted(self.listing.trials, "trial")
+        doubts = self.repair_words() + self.undetermined_words()
+        return line if not doubts else "%s, but %s; %s" % (line, "; ".join(doubts), NOT_FOR_SALE)
+
+    def freed_words(self, number):
+        link = self.links[number]
+        # a valve that was freed may close, regulate again and be freed once more
+        times = self.entries.count(("VF", number))
+        return "the %s at link %d (%d -> %d) was freed%s" % (
+            LINK_KINDS[link["kind"]], number, link["start"], link["end"], "" if times == 1 else " %d times" % times)
+
+    def repair_words(self):
+        repairs = [self.freed_words(i) for i in self.freed]
+        repairs += ["node %d was tied to a reservoir that is not there" % i for i in self.grounded]
+        count = self.listing.freed + self.listing.grounded
+        return ["with %s: %s" % ("a repair" if count == 1 else counted(count, "repair"), listed(repairs))
+                ] if repairs else []
+
+    def undetermined_words(self):
+        if not self.undetermined:
+            return []
+        return ["nothing determines the head%s of %s" % (
+            "" if len(self.undetermined) == 1 else "s", numbered("node", self.undetermined))]
+
+
+def entry_words(answer, mark, number):
+    """One entry of the record."""
+    if mark == "VF":
+        return ("the matrix could not be factorised: %s was freed (XPressure); it stands open and "
+                "regulates no more" % answer.link(number))
+    if mark == "GN":
+        return ("the matrix could not be factorised: %s was grounded, that is tied to a reservoir at "
+                "height 0 that is not there" % answer.node(number))
+    if mark == "SG":
+        return "%s failed again though it was grounded" % answer.node(number)
+    if mark == "NF":
+        return answer.refusal.why
+    return {"OK": "converged", "ST": "stepped, not yet converged"}[mark]
+
+
+def record_words(answer):
+    """(first trial, last trial, words), like entries side by side taken together."""
+    lines = []
+    for trial, (mark, number) in enumerate(answer.entries, 1):
+        words = entry_words(answer, mark, number)
+        if lines and mark == "ST" and lines[-1][2] == words:
+            lines[-1] = (lines[-1][0], trial, words)
+        else:
+            lines.append((trial, trial, words))
+    return lines

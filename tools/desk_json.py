@@ -1,0 +1,79 @@
+"""An answer for a program; docs/DESK.md says what each key holds."""
+import json
+
+from desk_answer import entry_words
+from desk_network import in_service
+from sheet_format import LINK_KINDS, NODE_KINDS, STATUSES, bits
+
+
+def numbers(**values):
+    """Each number under its name and, as 16 hex digits, under its name with `_bits`."""
+    found = {}
+    for name, value in values.items():
+        found[name] = value
+        found[name + "_bits"] = "%016x" % bits(value)
+    return found
+
+
+def safe(value):
+    """A field's value as JSON can hold it: a NaN or an infinity as text."""
+    return value if isinstance(value, int) or abs(value) <= 2.0 ** 1000 else repr(value)
+
+
+def refusal(answer):
+    r = answer.refusal
+    return {
+        "meaning": r.meaning, "why": r.why, "mend": r.mend, "record": r.record, "offset": r.offset,
+        "fields": [{"field": name, "value": safe(value), "must_be": must} for name, value, must in r.fields],
+    }
+
+
+def node(answer, i):
+    fields, units = answer.nodes[i], answer.units
+    head, demand, pressure = answer.listing.heads[i], answer.listing.demands[i], answer.pressure(i)
+    found = {"node": i, "kind": NODE_KINDS[fields["kind"]], "in_service": not fields["disabled"],
+             "grounded": i in answer.grounded, "undetermined": i in answer.undetermined}
+    found.update(numbers(elevation_ft=fields["elevation"], head_ft=head, pressure_ft=pressure, demand_cfs=demand,
+                         pressure=pressure * units.per_foot, demand=demand * units.per_cfs))
+    return found
+
+
+def link(answer, i):
+    fields, flow, status = answer.links[i], answer.listing.flows[i], answer.listing.statuses[i]
+    found = {"link": i, "kind": LINK_KINDS[fields["kind"]], "start": fields["start"], "end": fields["end"],
+             "in_service": in_service(fields, answer.nodes), "freed": i in answer.freed,
+             "status": STATUSES[status], "status_in_sheet": STATUSES[fields["status"]],
+             "changed": status != fields["status"]}
+    found.update(numbers(flow_cfs=flow, flow=flow * answer.units.per_cfs))
+    return found
+
+
+def results(answer):
+    demand, supply, error = answer.listing.balance
+    units = answer.units
+    return {
+        "units": {"flow": units.flow, "flow_per_cfs": units.per_cfs,
+                  "pressure": units.pressure, "pressure_per_ft": units.per_foot},
+        "nodes": [node(answer, i) for i in range(len(answer.nodes))],
+        "links": [link(answer, i) for i in range(len(answer.links))],
+        "balance": numbers(demand_cfs=demand, supply_cfs=supply, error_cfs=error),
+    }
+
+
+def answer_keys(answer):
+    found = {
+        "sheet": answer.name, "first_line": answer.first_line(), "exit_status": answer.exit_status,
+        "solved": answer.solved, "may_be_sold": answer.clean,
+        "number": answer.listing.number, "place": answer.listing.place, "trials": answer.listing.trials,
+        "freed": answer.freed, "grounded": answer.grounded, "undetermined": answer.undetermined,
+        "record": [{"trial": trial, "mark": mark, "number": number, "words": entry_words(answer, mark, number)}
+                   for trial, (mark, number) in enumerate(answer.entries, 1)],
+        "refusal": None if answer.solved else refusal(answer),
+    }
+    found.update(results(answer) if answer.solved else {})
+    return found
+
+
+def document(answers):
+    """One list, an entry a sheet."""
+    return json.dumps([answer_keys(answer) for answer in answers], indent=1, allow_nan=False) + "\n"

@@ -1,0 +1,174 @@
+"""The desk's command; see --help."""
+import argparse
+import os
+import sys
+
+import desk_json
+import desk_plot
+import desk_program
+import desk_text
+import sheet_text
+from desk_answer import BAD_USE, CLEAN, DOUBTFUL, REFUSED, Answer
+from sheet_format import shown
+
+DESCRIPTION = "Solves network sheets by the proved program and tells a person or a program what came out."
+EPILOG = """exit status:
+  0  every sheet was solved, with no repair and every head determined
+  1  a sheet was refused by the solver; that is an answer, and the first line says why
+  2  bad use: wrong arguments, a file that cannot be read or is empty, no program to ask
+  3  a sheet was solved with a repair, or with heads that nothing determines:
+     its pressures must not be sold on
+  of several sheets the gravest counts: 2, then 3, then 1
+
+docs/DESK.md says what the output means, docs/SHEETS.md how to write a sheet by hand."""
+GRAVEST_FIRST = (BAD_USE, DOUBTFUL, REFUSED, CLEAN)
+
+
+class BadUse(Exception):
+    """Something is wrong with what was asked."""
+
+
+def parser():
+    p = argparse.ArgumentParser(prog="desk", description=DESCRIPTION, epilog=EPILOG, allow_abbrev=False,
+                                formatter_class=argparse.RawDescriptionHelpFormatter)
+    p.add_argument("files", nargs="*", metavar="SHEET", help="a network sheet")
+    p.add_argument("--json", action="store_true", help="print one JSON list, an entry a sheet")
+    p.add_argument("--plot", metavar="FILE.svg", help="also draw the pressures; with several sheets each has "
+                   "its own picture, FILE-1-NAME.svg and so on")
+    p.add_argument("--explain", action="store_true", help="print the sheets' records with their byte offsets")
+    p.add_argument("--sheet", metavar="TEXTFILE", help="turn a scheme in the text form into a sheet")
+    p.add_argument("-o", dest="out", metavar="FILE.sheet", help="where --sheet writes it")
+    return p
+
+
+def check(p, options):
+    """Ends with a message where the arguments do not go together."""
+    if options.sheet is not None:
+        if options.out is None:
+            p.error("--sheet needs -o FILE.sheet")
+        if options.files or options.json or options.plot or options.explain:
+            p.error("--sheet goes with -o alone")
+        if os.path.abspath(options.out) == os.path.abspath(options.sheet):
+            p.error("-o would write over the text")
+    elif options.out is not None:
+        p.error("-o goes with --sheet")
+    elif not options.files:
+        p.error("name a sheet")
+    elif options.explain and (options.json or options.plot):
+        p.error("--explain goes alone")
+    elif options.plot is not None and not options.plot.endswith(".svg"):
+        # else `--plot a.sheet b.sheet` would write over a sheet
+        p.error("--plot writes a file whose name ends in .svg")
+
+
+def complain(message):
+    print("desk: " + message, file=sys.stderr)
+
+
+def read(path):
+    try:
+        with open(path, "rb") as file:
+            data = file.read()
+    except OSError as error:
+        raise BadUse("%s cannot be read: %s" % (path, error.strerror)) from error
+    if not data:
+        raise BadUse("%s is empty" % path)
+    return data
+
+
+def write(path, data):
+    try:
+        with open(path, "wb") as file:
+            file.write(data)
+    except OSError as error:
+        raise BadUse("%s cannot be written: %s" % (path, error.strerror)) from error
+
+
+def each(paths, do):
+    """Does something with every file that can be read, numbered from 1; the exit status of each."""
+    statuses = []
+    for number, path in enumerate(paths, 1):
+        try:
+            statuses.append(do(number, path, read(path)))
+        except BadUse as error:
+            complain(str(error))
+            statuses.append(BAD_USE)
+    return statuses
+
+
+def picture_name(plot, number, path, several):
+    if not several:
+        return plot
+    stem, ending = os.path.splitext(plot)
+    name = os.path.splitext(os.path.basename(path))[0]
+    return "%s-%d-%s%s" % (stem, number, name, ending)
+
+
+def answer_all(options, solve):
+    """Solves each sheet and prints it, or all of them as JSON at the end."""
+    several, answers = len(options.files) > 1, []
+
+    def one(number, path, data):
+        answer = Answer(path, data, solve(data))
+        answers.append(answer)
+        if options.plot:
+            write(picture_name(options.plot, number, path, several), desk_plot.picture(answer).encode())
+        if not options.json:
+            print(("\n" if answers[1:] else "") + desk_text.page(answer, several), end="", flush=True)
+        return answer.exit_status
+
+    statuses = each(options.files, one)
+    if options.json and answers:
+        print(desk_json.document(answers), end="")
+    return statuses
+
+
+def explain_all(paths):
+    def one(_, path, data):
+        if len(paths) > 1:
+            print(path)
+        for line in shown(data):
+            print(line)
+        return CLEAN
+    return each(paths, one)
+
+
+def make_sheet(text_path, out):
+    try:
+        data, scheme = sheet_text.read_scheme(read(text_path))
+    except sheet_text.Mistakes as mistakes:
+        for line, words in mistakes.found:
+            print("%s:%d: %s" % (text_path, line, words), file=sys.stderr)
+        return [BAD_USE]
+    write(out, data)
+    print("wrote %s, %d bytes" % (out, len(data)))
+    for line in scheme:
+        print("  " + line)
+    return [CLEAN]
+
+
+def gravest(statuses):
+    return next(status for status in GRAVEST_FIRST if status in statuses)
+
+
+def run(options, solve):
+    if options.sheet is not None:
+        return make_sheet(options.sheet, options.out)
+    if options.explain:
+        return explain_all(options.files)
+    return answer_all(options, solve)
+
+
+def main(args, solve=desk_program.solve):
+    p = parser()
+    options = p.parse_args(args)
+    check(p, options)
+    try:
+        return gravest(run(options, solve))
+    except (BadUse, desk_program.NotToBeHad) as error:
+        complain(str(error))
+        return BAD_USE
+    except BrokenPipeError:
+        # whoever read the output has seen enough; leave no second message behind
+        os.dup2(os.open(os.devnull, os.O_WRONLY), sys.stdout.fileno())
+        return BAD_USE

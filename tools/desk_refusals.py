@@ -1,0 +1,174 @@
+"""What a refusal means: the record, the field where it can be told, and what to mend."""
+import sheet_bounds
+from desk_words import counted, link_words, node_words
+from sheet_format import BYTES
+
+MEANINGS = {
+    1: "a record cannot be read as the layout says",
+    2: "the sheet has too few or too many records",
+    3: "a field is outside its bounds or codes",
+    4: "a link's ends may not be what they are",
+    5: "the program was lent too little room",
+    6: "the network is singular even after its repair",
+    7: "a head or a flow ran away",
+    8: "the trials were used up without an answer",
+}
+TITLES = {b"OP": "the options record", b"ND": "node", b"LK": "link"}
+ROOMS = ("heads", "demands", "flows", "statuses", "record", "scratch")
+# a place from here on names a link where below it names a node (refusal 7)
+FIRST_LINK_PLACE = 64
+
+
+class Refusal:
+    """`why` says what is wrong, the record named; `mend` what to do; `record` and `offset` which record and
+    where it stands, or None; `fields` holds (name, value, what it must be) of each field at fault."""
+
+    def __init__(self, number, place, why, mend, record=None, offset=None, fields=()):
+        self.number, self.place, self.why, self.mend = number, place, why, mend
+        self.record, self.offset, self.fields = record, offset, list(fields)
+        self.meaning = MEANINGS.get(number, "a number that this desk does not know")
+
+
+def title(mark, number, fields=None):
+    """A record in words; `fields` where it can be read."""
+    if mark == b"OP":
+        return TITLES[mark]
+    if fields is None:
+        return "%s %d" % (TITLES[mark], number)
+    return (node_words if mark == b"ND" else link_words)(number, fields)
+
+
+def numbered(found):
+    """(offset, mark, number among its kind, fields) of each record."""
+    count = {mark: 0 for mark in TITLES}
+    for at, mark, fields in found:
+        yield at, mark, count[mark], fields
+        count[mark] += 1
+
+
+def looks_like_text(data):
+    return all(byte in b"\t\n\r" or 32 <= byte < 127 for byte in data[:64])
+
+
+def unreadable(data, place):
+    if not data:
+        return Refusal(1, place, "the sheet is empty", "write the sheet anew")
+    found, _ = sheet_bounds.records(data)
+    last = found[-1][1] if found else None
+    allowed = sheet_bounds.allowed_after(last)
+    mark, left = data[place:place + 2], len(data) - place
+    number = sum(1 for _, m, _ in found if m == mark)
+    layout = listed_marks(allowed)
+    if mark in allowed:
+        return Refusal(1, place, "%s is cut short: it has %d of its %d bytes" % (
+            title(mark, number), left, BYTES[mark]),
+            "write the sheet anew, whole; it may have been cut in copying", title(mark, number), place)
+    if place == 0 and looks_like_text(data):
+        return Refusal(1, place, "the file is text and not a sheet",
+                       "turn the text form into a sheet first: ./desk --sheet TEXTFILE -o FILE.sheet")
+    if mark in TITLES:
+        return Refusal(1, place, "%s stands out of order: %s may come here" % (title(mark, number), layout),
+                       "put the records in order: one OP, then all ND, then all LK", title(mark, number), place)
+    return Refusal(1, place, "%s (hexadecimal) at byte %d is no record's mark: %s may come here" % (
+        mark.hex(" "), place, layout),
+        "write the sheet anew; it can be read up to there (%s)" % counted(len(found), "record"))
+
+
+def listed_marks(marks):
+    return " or ".join(mark.decode() for mark in marks)
+
+
+def wrong_count(data, place):
+    found, _ = sheet_bounds.records(data)
+    mark, word, bounds = ((b"ND", "node", "1 to %d" % sheet_bounds.MOST_NODES),
+                          (b"LK", "link", "0 to %d" % sheet_bounds.MOST_LINKS))[place]
+    count = sum(1 for _, m, _ in found if m == mark)
+    return Refusal(2, place, "the sheet has %s; %s are allowed" % (counted(count, word), bounds),
+                   "add what is missing" if count == 0 else "split the scheme, or leave links and nodes out")
+
+
+def at_record(data, place):
+    """(mark, number, fields) of the record at an offset, and the fields of every node."""
+    found, _ = sheet_bounds.records(data)
+    nodes = [fields for _, mark, fields in found if mark == b"ND"]
+    for at, mark, number, fields in numbered(found):
+        if at == place:
+            return mark, number, fields, nodes
+    raise ValueError("no record stands at byte %d" % place)
+
+
+def in_words(name):
+    return name.replace("_", " ")
+
+
+def of_fields(number, place, mark, count, fields, faults):
+    record = title(mark, count, fields)
+    told = [(name, fields[name], must) for name, must in faults]
+    wrong = ["%s is %r but must be %s" % (in_words(name), value, must) for name, value, must in told]
+    mend = "correct its %s where the sheet was made; ./desk --explain SHEET shows the whole record" % (
+        " and its ".join(in_words(name) for name, _, _ in told))
+    if not told:
+        wrong, mend = ["which field cannot be told"], "look at its fields: ./desk --explain SHEET"
+    return Refusal(number, place, "%s: %s" % (record, "; ".join(wrong)), mend, record, place, told)
+
+
+def out_of_bounds(data, place):
+    mark, count, fields, nodes = at_record(data, place)
+    return of_fields(3, place, mark, count, fields, sheet_bounds.faults(mark, fields, len(nodes)))
+
+
+def wrong_ends(data, place):
+    mark, count, fields, nodes = at_record(data, place)
+    fault = sheet_bounds.end_fault(fields, nodes)
+    return of_fields(4, place, mark, count, fields, [fault] if fault else [])
+
+
+def too_little_room(data, place):
+    return Refusal(5, place, "the room for %s was too short" % ROOMS[place],
+                   "nothing in the sheet: the program that called the solver must lend more")
+
+
+def node_at(data, number):
+    mark, offset = b"ND", BYTES[b"OP"] + BYTES[b"ND"] * number
+    return title(mark, number, at_record(data, offset)[2]), offset
+
+
+def link_at(data, number):
+    nodes = at_record(data, 0)[3]
+    offset = BYTES[b"OP"] + BYTES[b"ND"] * len(nodes) + BYTES[b"LK"] * number
+    return title(b"LK", number, at_record(data, offset)[2]), offset
+
+
+def singular(data, place):
+    record, offset = node_at(data, place)
+    return Refusal(6, place, "at %s the matrix failed again though the node was grounded" % record,
+                   "look at what joins this node to a source, and for links of next to no resistance there",
+                   record, offset)
+
+
+def ran_away(data, place):
+    is_link = place >= FIRST_LINK_PLACE
+    record, offset = link_at(data, place - FIRST_LINK_PLACE) if is_link else node_at(data, place)
+    return Refusal(7, place, "the %s of %s became no number, infinite or at least 2^64 in magnitude" % (
+        "flow" if is_link else "head", record),
+        "look for a demand, a setting, a resistance or a first flow near it that is far too great "
+        "(all are in feet and cubic feet per second)", record, offset)
+
+
+def used_up(data, place):
+    return Refusal(8, place, "%s gave no answer" % counted(place, "trial"),
+                   "allow more trials (up to %d), a coarser accuracy or a damping limit; a valve that flips "
+                   "between two statuses may need another setting" % sheet_bounds.MOST_TRIALS)
+
+
+EXPLAIN = {1: unreadable, 2: wrong_count, 3: out_of_bounds, 4: wrong_ends, 5: too_little_room,
+           6: singular, 7: ran_away, 8: used_up}
+
+
+def explain(data, number, place):
+    try:
+        return EXPLAIN[number](data, place)
+    except (IndexError, KeyError, ValueError):
+        # the program decides; what it says is told even where it cannot be followed here
+        return Refusal(number, place, "what is wrong there cannot be told",
+                       "look at the records: ./desk --explain SHEET")

@@ -1,0 +1,114 @@
+"""An answer for a person."""
+from desk_answer import record_words
+from desk_network import JUNCTION, in_service
+from desk_words import fixed, small
+from sheet_format import LINK_KINDS, NODE_KINDS, STATUSES
+
+
+def table(header, rows):
+    """Lines with aligned columns; a header that begins with `<` has its column's words to the left."""
+    left = [name.startswith("<") for name in header]
+    cells = [[name.lstrip("<") for name in header]] + rows
+    widths = [max(len(row[k]) for row in cells) for k in range(len(header))]
+    for row in cells:
+        line = "  ".join(cell.ljust(width) if to_left else cell.rjust(width)
+                         for cell, width, to_left in zip(row, widths, left))
+        yield "  " + line.rstrip()
+
+
+def node_marks(answer, number):
+    node = answer.nodes[number]
+    marks = [("grounded", number in answer.grounded),
+             ("head undetermined", number in answer.undetermined),
+             ("pressure below 0", node["kind"] == JUNCTION and answer.pressure(number) < 0),
+             ("out of service", node["disabled"])]
+    return ", ".join(mark for mark, there in marks if there)
+
+
+def flows(units, x):
+    """A flow in cubic feet per second and, if that is another, in the sheet's unit."""
+    return [fixed(x, 4)] + ([fixed(x * units.per_cfs, 2)] if units.flow != "CFS" else [])
+
+
+def flow_names(units, word):
+    return [word + " cfs"] + ([word + " " + units.flow] if units.flow != "CFS" else [])
+
+
+def node_row(answer, number):
+    units, listing = answer.units, answer.listing
+    head, pressure = listing.heads[number], answer.pressure(number)
+    heads = [head] + ([head * units.per_foot] if units.metric else [])
+    return ([str(number), NODE_KINDS[answer.nodes[number]["kind"]]]
+            + [fixed(x, 2) for x in heads + [pressure, pressure * units.per_foot]]
+            + flows(units, listing.demands[number]) + [node_marks(answer, number)])
+
+
+def nodes(answer):
+    units = answer.units
+    header = (["node", "<kind", "head ft"] + (["head m"] if units.metric else [])
+              + ["pressure ft", "pressure " + units.pressure] + flow_names(units, "demand") + ["<"])
+    return table(header, [node_row(answer, i) for i in range(len(answer.nodes))])
+
+
+def link_marks(answer, number):
+    link = answer.links[number]
+    was = link["status"]
+    marks = [("changed, was " + STATUSES[was], was != answer.listing.statuses[number]),
+             ("freed", number in answer.freed),
+             ("out of service", not in_service(link, answer.nodes))]
+    return ", ".join(mark for mark, there in marks if there)
+
+
+def link_row(answer, number):
+    link, listing = answer.links[number], answer.listing
+    return ([str(number), LINK_KINDS[link["kind"]], str(link["start"]), str(link["end"])]
+            + flows(answer.units, listing.flows[number])
+            + [STATUSES[listing.statuses[number]], link_marks(answer, number)])
+
+
+def links(answer):
+    header = ["link", "<kind", "start", "end"] + flow_names(answer.units, "flow") + ["<status", "<"]
+    return table(header, [link_row(answer, i) for i in range(len(answer.links))])
+
+
+def balance(answer):
+    demand, supply, error = answer.listing.balance
+    yield "  demand %s cfs, supply %s cfs, error %s cfs" % (fixed(demand, 4), fixed(supply, 4), small(error))
+    tanks = [i for i, node in enumerate(answer.nodes) if NODE_KINDS[node["kind"]] == "tank"]
+    if tanks:
+        # the inflow of a tank is counted as demand and taken from the supply as well
+        inflow = sum(answer.listing.demands[i] for i in tanks)
+        yield "  the error holds what goes into the tanks, %s cfs; without it, it is %s cfs" % (
+            fixed(inflow, 4), small(error - inflow))
+
+
+def record(answer):
+    for first, last, words in record_words(answer):
+        trials = "trial %d" % first if first == last else "trials %d to %d" % (first, last)
+        yield "  %s: %s" % (trials, words)
+
+
+def section(name, lines):
+    lines = list(lines)
+    return ["", name] + lines if lines else []
+
+
+def refused(answer):
+    refusal = answer.refusal
+    lines = ["  means   " + refusal.meaning, "  mend    " + refusal.mend]
+    if refusal.record is not None:
+        lines.insert(1, "  record  %s, at byte %d of the sheet" % (refusal.record, refusal.offset))
+    return lines + section("Trials", record(answer))
+
+
+def solved(answer):
+    return (section("Nodes", nodes(answer))
+            + (section("Links", links(answer)) if answer.links else [])
+            + section("Balance", balance(answer))
+            + section("Trials", record(answer)))
+
+
+def page(answer, named):
+    """Everything about one sheet; its name before the first line where there are several."""
+    first = ("%s: " % answer.name if named else "") + answer.first_line()
+    return "\n".join([first] + (solved if answer.solved else refused)(answer)) + "\n"

@@ -1,0 +1,66 @@
+"""Words and figures that the desk's pages share."""
+from sheet_format import LINK_KINDS, NODE_KINDS, PER_CFS, UNITS, named
+
+# the original's factors: psi and metres of water in a foot of it
+PSI_PER_FOOT, METRES_PER_FOOT = 0.4333, 0.3048
+METRIC = UNITS[UNITS.index("LPS"):]
+
+
+class Units:
+    """A sheet's flow unit, and the pressure unit that goes with it."""
+
+    def __init__(self, code):
+        self.flow, self.per_cfs = UNITS[code], PER_CFS[code]
+        self.metric = self.flow in METRIC
+        self.pressure = "m" if self.metric else "psi"
+        self.per_foot = METRES_PER_FOOT if self.metric else PSI_PER_FOOT
+
+
+def fixed(x, digits):
+    """A figure for a reader: so many decimals, no minus before a zero, powers of ten once it is huge."""
+    if abs(x) >= 1e7:
+        return "%.4g" % x
+    text = "%.*f" % (digits, x)
+    return text[1:] if text.startswith("-") and not text.strip("-0.") else text
+
+
+def small(x):
+    """A figure that is near zero when all is well."""
+    return "0" if x == 0 else "%.2g" % x
+
+
+def counted(count, word):
+    return "%d %s%s" % (count, word, "" if count == 1 else "s")
+
+
+def listed(words):
+    """`a`, `a and b`, `a, b and c`."""
+    words = list(words)
+    return " and ".join(([", ".join(words[:-1])] if words[1:] else []) + words[-1:])
+
+
+def runs(numbers):
+    """Ascending numbers as (first, last) of each unbroken run."""
+    found = []
+    for n in numbers:
+        if found and found[-1][1] == n - 1:
+            found[-1] = (found[-1][0], n)
+        else:
+            found.append((n, n))
+    return found
+
+
+def numbered(word, numbers):
+    """`node 4`, `nodes 1 and 2`, `nodes 1 to 5 and 8`."""
+    parts = []
+    for first, last in runs(numbers):
+        parts += ["%d to %d" % (first, last)] if last - first > 1 else map(str, range(first, last + 1))
+    return "%s%s %s" % (word, "" if len(numbers) == 1 else "s", listed(parts))
+
+
+def node_words(number, node):
+    return "node %d (%s)" % (number, named(NODE_KINDS, node["kind"]))
+
+
+def link_words(number, link):
+    return "link %d (%s %d -> %d)" % (number, named(LINK_KINDS, link["kind"]), link["start"], link["end"])

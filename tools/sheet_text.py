@@ -1,0 +1,262 @@
+"""The text form of a sheet: one record a line, names for nodes, a unit after every figure that has one.
+docs/SHEETS.md describes it; `./desk --sheet TEXTFILE -o FILE.sheet` turns it into a sheet."""
+import math
+import re
+
+import sheet_bounds
+from desk_words import METRES_PER_FOOT, PSI_PER_FOOT
+from sheet_format import LINK_KINDS, NODE_KINDS, PER_CFS, STATUSES, UNITS, Sheet
+
+NUMBER = re.compile(r"[+-]?(\d+\.?\d*|\.\d+)([eE][+-]?\d+)?")
+
+# what a figure may be given in, and how many of it make the sheet's own unit
+FLOW = {name.lower(): per for name, per in zip(UNITS, PER_CFS)}
+HEIGHT = {"ft": 1.0, "m": METRES_PER_FOOT}
+PRESSURE = {"ft": 1.0, "m": METRES_PER_FOOT, "psi": PSI_PER_FOOT}
+WIDTH = {"ft": 1.0, "in": 12.0, "m": METRES_PER_FOOT, "mm": METRES_PER_FOOT * 1000.0}
+PERCENT = {"%": 1.0}
+BARE = None
+
+SETTINGS = {"PRV": PRESSURE, "PSV": PRESSURE, "PBV": PRESSURE, "FCV": FLOW, "TCV": BARE, "PCV": PERCENT}
+# figures, flags, and the figures that must be there, of each kind of record
+FIGURES = {
+    "options": {"accuracy": BARE, "trials": BARE, "damping-limit": BARE, "max-flow-change": FLOW},
+    "junction": {"elevation": HEIGHT, "demand": FLOW, "head": HEIGHT},
+    "reservoir": {"elevation": HEIGHT, "demand": FLOW, "head": HEIGHT},
+    "tank": {"elevation": HEIGHT, "head": HEIGHT, "max-level": HEIGHT, "min-level": HEIGHT},
+    "pipe": {"resistance": BARE, "length": HEIGHT, "roughness": BARE, "diameter": WIDTH, "minor-loss": BARE,
+             "flow": FLOW},
+}
+FIGURES.update({kind: {"setting": unit, "diameter": WIDTH, "minor-loss": BARE, "flow": FLOW}
+                for kind, unit in SETTINGS.items()})
+FLAGS = {"junction": ["disabled"], "reservoir": ["disabled"], "tank": ["disabled", "overflow"],
+         "pipe": ["check-valve"]}
+NEEDED = {"junction": ["elevation"], "reservoir": ["head"],
+          "tank": ["elevation", "head", "max-level", "min-level"]}
+NEEDED.update({kind: ["setting", "diameter"] for kind in SETTINGS})
+KINDS = {kind.lower(): kind for kind in FIGURES}
+
+
+class Mistake(Exception):
+    """What is wrong with a line."""
+
+
+class Mistakes(Exception):
+    """All that is wrong with a text: (line from 1, words)."""
+
+    def __init__(self, found):
+        super().__init__("; ".join("line %d: %s" % mistake for mistake in found))
+        self.found = found
+
+
+def one_of(names, word, what):
+    """A name of a list, however its letters are written."""
+    for name in names:
+        if name.lower() == word.lower():
+            return name
+    raise Mistake("%s is no %s; there are %s" % (word, what, ", ".join(names)))
+
+
+def take(words, what):
+    if not words:
+        raise Mistake("the line ends where %s is expected" % what)
+    return words.pop(0)
+
+
+def figure(name, words, units):
+    """The number after a figure's name, turned into the sheet's unit by the unit after it."""
+    text = take(words, "the figure of " + name)
+    if not NUMBER.fullmatch(text):
+        raise Mistake("%s is no number, but the figure of %s is expected" % (text, name))
+    if units is BARE:
+        return float(text)
+    unit = take(words, "the unit of " + name)
+    if unit.lower() not in units:
+        raise Mistake("%s is no unit for %s; there are %s" % (unit, name, ", ".join(units)))
+    return float(text) / units[unit.lower()]
+
+
+def fields_of(kind, words, **other_units):
+    """The figures, flags, status and flow unit of a line, by name."""
+    found, figures = {}, dict(FIGURES[kind], **other_units)
+    while words:
+        name = words.pop(0).lower()
+        if name in found:
+            raise Mistake("%s is given twice" % name)
+        if name in figures:
+            found[name] = figure(name, words, figures[name])
+        elif name in FLAGS.get(kind, ()):
+            found[name] = 1
+        elif name == "status" and kind in LINK_KINDS:
+            found[name] = one_of(STATUSES, take(words, "a status"), "status")
+        elif name == "flow-unit" and kind == "options":
+            found[name] = one_of(UNITS, take(words, "a flow unit"), "flow unit")
+        else:
+            raise Mistake("%s has no %s; it may have %s" % (kind, name, ", ".join(allowed(kind))))
+    missing = [name for name in NEEDED.get(kind, ()) if name not in found]
+    if missing:
+        raise Mistake("%s needs %s" % (kind, " and ".join(missing)))
+    return found
+
+
+def allowed(kind):
+    extra = ["status"] if kind in LINK_KINDS else ["flow-unit"] if kind == "options" else []
+    return list(FIGURES[kind]) + FLAGS.get(kind, []) + extra
+
+
+def flow_unit(words):
+    """The flow unit that an options line names; asked for first, since max-flow-change is kept in it."""
+    for name, unit in zip(words, words[1:]):
+        if name.lower() == "flow-unit":
+            return one_of(UNITS, unit, "flow unit")
+    return "CFS"
+
+
+def counted_in(unit):
+    """Every flow unit, seen from one of them; from itself it is exactly 1."""
+    return {name: per / FLOW[unit.lower()] for name, per in FLOW.items()}
+
+
+def underscored(found):
+    return {name.replace("-", "_"): value for name, value in found.items()}
+
+
+def resistance(found):
+    """A pipe's resistance: as given, or by Hazen-Williams from length, diameter and roughness."""
+    known = [name for name in ("length", "roughness") if name in found]
+    if "resistance" in found:
+        if known:
+            raise Mistake("a pipe has a resistance, or a length and a roughness, not both")
+        return found["resistance"]
+    if len(known) < 2 or "diameter" not in found:
+        raise Mistake("a pipe needs a resistance, or a length, a diameter and a roughness")
+    if not (found["diameter"] > 0 and found["roughness"] > 0):
+        raise Mistake("diameter and roughness must be above 0")
+    return 4.727 * found["roughness"] ** -1.852 * found["diameter"] ** -4.871 * found["length"]
+
+
+def link_fields(kind, found):
+    found = dict(found)
+    diameter = found.setdefault("diameter", 1.0)
+    # the old solver's first guess: one foot a second through the whole diameter
+    found.setdefault("flow", 0.25 * math.pi * diameter * diameter)
+    found.setdefault("status", "Open" if kind == "pipe" else "Active")
+    if kind == "pipe":
+        found["resistance"] = resistance(found)
+        found.pop("length", None)
+        found.pop("roughness", None)
+    return underscored(found)
+
+
+class Scheme:
+    """The records of a text as they are read; links wait until every node has its number."""
+
+    def __init__(self):
+        self.sheet = Sheet()
+        self.options_line = None
+        self.numbers, self.lines = {}, {b"OP": [1], b"ND": [], b"LK": []}
+        self.waiting, self.names = [], []
+
+    def options(self, line, words):
+        if self.options_line is not None:
+            raise Mistake("options were given in line %d already" % self.options_line)
+        self.options_line, self.lines[b"OP"] = line, [line]
+        unit = flow_unit(words)
+        found = fields_of("options", words, **{"max-flow-change": counted_in(unit)})
+        trials = found.get("trials", 40.0)
+        if not trials.is_integer() or not 0 <= trials <= 0xffff:
+            raise Mistake("trials must be 1 to %d" % sheet_bounds.MOST_TRIALS)
+        found.update({"trials": int(trials), "unit": UNITS.index(unit)})
+        found.pop("flow-unit", None)
+        self.sheet.op.update(underscored(found))
+
+    def node(self, kind, line, words):
+        name = take(words, "the node's name")
+        if name in self.numbers:
+            raise Mistake("a node is called %s already" % name)
+        # the name counts even if its fields are wrong, so that one slip is told once
+        self.numbers[name] = len(self.numbers)
+        self.lines[b"ND"].append(line)
+        self.sheet.node(kind, **underscored(fields_of(kind, words)))
+
+    def link(self, kind, line, words):
+        start, arrow, end = (take(words, what) for what in ("the start node", "->", "the end node"))
+        if arrow != "->":
+            raise Mistake("`%s START -> END` is expected, the names of two nodes" % kind)
+        self.waiting.append((kind, line, start, end, link_fields(kind, fields_of(kind, words))))
+
+    def record(self, line, words):
+        kind = KINDS.get(words[0].lower())
+        if kind is None:
+            raise Mistake("%s is no kind of record; there are %s" % (words[0], ", ".join(FIGURES)))
+        rest = words[1:]
+        if kind == "options":
+            self.options(line, rest)
+        elif kind in NODE_KINDS:
+            self.node(kind, line, rest)
+        else:
+            self.link(kind, line, rest)
+
+    def join(self, kind, line, start, end, fields):
+        """Puts a link in, now that all names are known."""
+        for name in (start, end):
+            if name not in self.numbers:
+                raise Mistake("no node is called " + name)
+        self.lines[b"LK"].append(line)
+        self.names.append((kind, start, end))
+        self.sheet.link(kind, self.numbers[start], self.numbers[end], **fields)
+
+    def bounds(self):
+        """(line, words) for each record that the solver would refuse."""
+        nodes, links = self.sheet.nodes, self.sheet.links
+        if not nodes:
+            yield 1, "a sheet needs a node"
+        for word, lines, most in (("nodes", self.lines[b"ND"], sheet_bounds.MOST_NODES),
+                                  ("links", self.lines[b"LK"], sheet_bounds.MOST_LINKS)):
+            if len(lines) > most:
+                yield lines[most], "a sheet holds at most %d %s" % (most, word)
+        for mark, found in ((b"OP", [self.sheet.op]), (b"ND", nodes), (b"LK", links)):
+            for line, fields in zip(self.lines[mark], found):
+                for name, must in sheet_bounds.faults(mark, fields, len(nodes)):
+                    yield line, "%s is %r but must be %s" % (name.replace("_", "-"), fields[name], must)
+        for line, fields in zip(self.lines[b"LK"], links):
+            fault = sheet_bounds.end_fault(fields, nodes)
+            if fault:
+                yield line, "its %s must be %s" % fault
+
+    def shown(self):
+        """Which number each name got."""
+        for (name, number), node in zip(self.numbers.items(), self.sheet.nodes):
+            yield "node %d  %s %s" % (number, NODE_KINDS[node["kind"]], name)
+        for number, (kind, start, end) in enumerate(self.names):
+            yield "link %d  %s %s -> %s" % (number, kind, start, end)
+
+
+def attempt(mistakes, line, do, *args):
+    try:
+        do(*args)
+    except Mistake as mistake:
+        mistakes.append((line, str(mistake)))
+
+
+def decoded(data):
+    try:
+        return data.decode("utf-8")
+    except UnicodeDecodeError as error:
+        raise Mistakes([(data[:error.start].count(b"\n") + 1, "this is not text")]) from error
+
+
+def read_scheme(data):
+    """The sheet's bytes, and lines that say which number each name got; or Mistakes, all of them."""
+    scheme, mistakes = Scheme(), []
+    for line, text in enumerate(decoded(data).splitlines(), 1):
+        words = text.split("#")[0].split()
+        if words:
+            attempt(mistakes, line, scheme.record, line, words)
+    for waiting in scheme.waiting:
+        attempt(mistakes, waiting[1], scheme.join, *waiting)
+    # a record left out for a mistake would shift the numbers, so bounds are looked at only without any
+    found = mistakes or list(scheme.bounds())
+    if found:
+        raise Mistakes(sorted(found))
+    return scheme.sheet.encode(), list(scheme.shown())
