@@ -5,15 +5,13 @@ use mathlib.Core.List.{List, [], _∷_}
 use mathlib.Core.Bool.{Bool, true, false, cond, _&&_, not}
 use native.Mathlib.Omega.{arith}
 use native.Mathlib.Decide.{ℕ-discrete}
-use borrow.Author.Tests.{eq-eqb}
-use lib.Dec.{eqb}
-use lib.ListN.{length, getD, set, drop, replicate, length-set, length-replicate}
+use lib.ListN.{getD, set, drop, replicate, length-set, length-replicate}
 use lib.Seq.{drop-nil, getD-set-same, getD-set-other}
 use lib.Ieee.{Float}
 use Rattle.records.specs.Offsets.{linkOffset}
 use Rattle.sheet.specs.Ends.{inService}
 use Rattle.sheet.specs.Read.{readOf}
-use Rattle.sheet.specs.declared.layout.Found.the-variants.{At, Nothing}
+use Rattle.sheet.specs.declared.layout.Found.the-variants.{At}
 use Rattle.sheet.specs.declared.reading.Net.{Net}
 use Rattle.sheet.specs.declared.reading.Reading.the-variants.{Good}
 use Rattle.linear.specs.Factorization.{factorOf}
@@ -32,7 +30,6 @@ use Rattle.update.proofs.Kept.{update-flows-long, update-codes-long}
 use Rattle.tanks.proofs.Kept.{tank-demands-long, tank-codes-long}
 use Rattle.repair.specs.declared.Damping.{Damping}
 use Rattle.repair.specs.declared.Entry.{Entry}
-use Rattle.repair.specs.declared.Entry.the-variants.{Freed, Grounded, Singular, Wild, Stepped, Converged}
 use Rattle.trial.specs.Trial.{Room, Outcome, repairOf, stepOf, systemOf, trialOf}
 use Rattle.entries.specs.Entries.{goingOf}
 use Rattle.entries.specs.declared.Going.{Going}

@@ -2,11 +2,10 @@
 use Prim.Native.Nat.{ℕ, zero, suc, _+_, _-_, _*_, _≤_, _<_}
 use mathlib.Core.Path.{_≡_, refl, sym, ap, _∙_}
 use mathlib.Core.List.{List, _++_}
-use mathlib.Core.Bool.{Bool, true, false, _&&_}
 use mathlib.Core.Logic.{⊎-elim}
 use native.Mathlib.Nat.{eq-or-lt-of-le, le-of-suc-le-suc}
 use native.Mathlib.Omega.{arith}
-use lib.ListN.{length, getD, set, take, drop, length-set, getD-replicate, List·getD-append}
+use lib.ListN.{length, getD, take, drop, getD-replicate, List·getD-append}
 use lib.Seq.{getD-set-same, getD-set-other, getD-append-add, getD-take, getD-drop, length-take-le}
 use lib.Ieee.{Float, nan, binary64, ofBits}
 use Rattle.constants.specs.Arithmetic.{plus}
@@ -25,12 +24,11 @@ use Rattle.entries.specs.Entries.{none, written, tallied}
 use Rattle.entries.specs.declared.Ended.{Ended}
 use Rattle.entries.specs.declared.Ended.the-variants.{Balanced, Failed, Strayed, Limit}
 use Rattle.entries.specs.declared.Tally.{Tally}
-use Rattle.answers.specs.Answers.{Lent, Solved, failedOf, emptied, refusedOf, unsolved, delivered, told}
-use Rattle.solver.specs.Solve.{trialsOf, solvedWith, solveOf}
+use Rattle.answers.specs.Answers.{Lent, failedOf, emptied, refusedOf, unsolved, delivered, told}
+use Rattle.solver.specs.Solve.{trialsOf, solveOf}
 use Rattle.promises.specs.Trials.{startPoint, runIn, pointIn}
 use Rattle.promises.specs.Solves.{Runs}
-use Rattle.promises.specs.Buffers.{Untouched, Withheld, NoTotals, Buffers, Over, Delivered}
-use Rattle.promises.proofs.Never.{other}
+use Rattle.promises.specs.Buffers.{Buffers, Over, Delivered}
 use Rattle.promises.proofs.Trials.{solve-last-state}
 use Rattle.promises.proofs.Bound.{room-after, start-room}
 use Rattle.promises.proofs.Solves.{comes, ways, tells}

@@ -1,8 +1,9 @@
 -- Demand 1: each number and place is told for its one cause, and in no other case. Assumes nothing.
-use Prim.Native.Nat.{ℕ, zero, suc, _+_, _-_, _≤_, _<_}
+use Prim.Native.Nat.{ℕ, zero, suc, _-_, _≤_, _<_}
 use mathlib.Core.Path.{_≡_, refl, sym, ap, _∙_}
 use mathlib.Core.List.{List, [], _∷_}
 use mathlib.Core.Bool.{true, _&&_}
+use mathlib.Core.Logic.{_⊎_, inl, inr, ⊎-elim}
 use native.Mathlib.Omega.{arith}
 use lib.ListN.{length, getD}
 use lib.Dec.{leb}
@@ -17,13 +18,13 @@ use Rattle.refusals.specs.Refusals.{numberOf, placeOf}
 use Rattle.refusals.specs.declared.refusals.Refusal.{Refusal}
 use Rattle.refusals.specs.declared.refusals.Refusal.the-variants.{Unreadable, NodeCount, LinkCount, Field, Ends}
 use Rattle.sheet.specs.Read.{readOf}
-use Rattle.sheet.specs.declared.layout.Found.{Found}
-use Rattle.sheet.specs.declared.layout.Found.the-variants.{At, Nothing}
+use Rattle.sheet.specs.declared.layout.Found.the-variants.{At}
 use Rattle.sheet.specs.declared.reading.Net.{Net}
 use Rattle.sheet.specs.declared.reading.Reading.{Reading}
 use Rattle.sheet.specs.declared.reading.Reading.the-variants.{Good, Refused}
 use Rattle.accepted.specs.Accepted.{causeOf, numberIn}
 use Rattle.accepted.proofs.Accepts.{cause, accepts}
+use Rattle.nodes.specs.declared.numbering.NodeIndex.{NodeIndex}
 use Rattle.state.specs.State.{State}
 use Rattle.repair.specs.declared.Damping.{Damping}
 use Rattle.repair.specs.declared.Entry.{Entry}
@@ -35,13 +36,16 @@ use Rattle.entries.specs.declared.Ended.the-variants.{Balanced, Failed, Strayed
 use Rattle.entries.specs.declared.Going.{Going}
 use Rattle.entries.specs.declared.Going.the-variants.{On, Over}
 use Rattle.entries.specs.declared.Tally.{Tally}
-use Rattle.runs.specs.Run.{Run, after, runWith}
+use Rattle.runs.specs.Run.{after, runWith}
 use Rattle.answers.specs.Answers.{Lent, Solved, failedOf, refusedOf, unsolved, delivered, told}
-use Rattle.solver.specs.Solve.{trialsOf, solvedWith, afterShort, afterRead, solveWith, solveOf}
+use Rattle.solver.specs.Solve.{trialsOf, afterShort, afterRead, solveWith, solveOf}
+use Rattle.promises.specs.Repairs.{Refuses}
 use Rattle.promises.specs.Trials.{Point, point, trialAt, runAt, startPoint, runIn}
 use Rattle.promises.specs.Solves.{shortIn, Runs}
-use Rattle.promises.specs.Causes.{endNumber, endPlace, Cause, sheet, short, ended, endBy, EndsBy}
+use Rattle.promises.specs.Causes.{endNumber, endPlace, Cause, sheet, short, ended, endBy, EndsBy, lastIn, beforeLast}
 use Rattle.promises.proofs.Never.{other}
+use Rattle.promises.proofs.Repairs.{refused-only}
+use Rattle.promises.proofs.Trials.{solve-each-entry}
 use Rattle.promises.proofs.Solves.{comes, ways, tells}
 use Rattle.promises.proofs.Counts.{trials-are}
 
@@ -281,3 +285,97 @@ some-trials s net h = options-some baseBounds s (accepts baseBounds s (net .node
 -- A solve that is not refused for its sheet or its buffers runs a trial.
 pub runs-a-trial : (s : List ℕ) (l : Lent) (net : Net) → Runs s l net → 1 ≤ solveOf s l .answer .trials
 runs-a-trial s l net w = omega (arith, trials-are s l net w, solve-ends-by s net .some (some-trials s net (w .read)))
+
+-- ---- what the last trial came to
+
+by-converged : (e : Entry) → endBy e ≡ Balanced → e ≡ Converged
+unfolding endBy
+by-converged (Freed i) h = other (cc)
+by-converged (Grounded i) h = other (cc)
+by-converged (Singular i) h = other (cc)
+by-converged (Wild p) h = other (cc)
+by-converged (Stepped d) h = other (cc)
+by-converged Converged h = refl
+
+by-failed : (v : NodeIndex) (e : Entry) → endBy e ≡ Failed v → e ≡ Singular v
+unfolding endBy
+by-failed v (Freed i) h = other (cc)
+by-failed v (Grounded i) h = other (cc)
+by-failed v (Singular i) h = cc
+by-failed v (Wild p) h = other (cc)
+by-failed v (Stepped d) h = other (cc)
+by-failed v Converged h = other (cc)
+
+by-strayed : (q : ℕ) (e : Entry) → endBy e ≡ Strayed q → e ≡ Wild q
+unfolding endBy
+by-strayed q (Freed i) h = other (cc)
+by-strayed q (Grounded i) h = other (cc)
+by-strayed q (Singular i) h = other (cc)
+by-strayed q (Wild p) h = cc
+by-strayed q (Stepped d) h = other (cc)
+by-strayed q Converged h = other (cc)
+
+module _ (s : List ℕ) (l : Lent) (net : Net) (w : Runs s l net) where
+  last-tells : (z : Ended) → runIn s net .ended ≡ z → endBy (lastIn s net) ≡ z
+  unfolding lastIn
+  last-tells z e = sym (solve-ends-by s net .last (some-trials s net (w .read))) ∙ e
+
+  last-is : lastIn s net ≡ trialAt s (net .nodes) (net .links) (beforeLast s net) .entry
+  unfolding lastIn beforeLast
+  last-is = solve-each-entry s net (length (runIn s net .entries) - 1) (omega (arith, solve-ends-by s net .some (some-trials s net (w .read))))
+
+  at-converged : (z : Ended) → runIn s net .ended ≡ z → endNumber z ≡ 0 → lastIn s net ≡ Converged
+  unfolding endNumber
+  at-converged Balanced e h = by-converged (lastIn s net) (last-tells Balanced e)
+  at-converged (Failed v) e h = absurd (let y : ⊥ = omega arith in y)
+  at-converged (Strayed p) e h = absurd (let y : ⊥ = omega arith in y)
+  at-converged Limit e h = absurd (let y : ⊥ = omega arith in y)
+
+  at-failed : (z : Ended) → runIn s net .ended ≡ z → endNumber z ≡ 6 → Refuses s (net .nodes) (net .links) (beforeLast s net .state) (endPlace (trialsOf s) z)
+  unfolding endNumber endPlace
+  at-failed Balanced e h = absurd (let y : ⊥ = omega arith in y)
+  at-failed (Failed v) e h = refused-only s (net .nodes) (net .links) (beforeLast s net .damping) (beforeLast s net .state) v (sym last-is ∙ by-failed v (lastIn s net) (last-tells (Failed v) e))
+  at-failed (Strayed p) e h = absurd (let y : ⊥ = omega arith in y)
+  at-failed Limit e h = absurd (let y : ⊥ = omega arith in y)
+
+  at-strayed : (z : Ended) → runIn s net .ended ≡ z → endNumber z ≡ 7 → lastIn s net ≡ Wild (endPlace (trialsOf s) z)
+  unfolding endNumber endPlace
+  at-strayed Balanced e h = absurd (let y : ⊥ = omega arith in y)
+  at-strayed (Failed v) e h = absurd (let y : ⊥ = omega arith in y)
+  at-strayed (Strayed p) e h = by-strayed p (lastIn s net) (last-tells (Strayed p) e)
+  at-strayed Limit e h = absurd (let y : ⊥ = omega arith in y)
+
+  at-limit : (z : Ended) → runIn s net .ended ≡ z → endNumber z ≡ 8 → length (runIn s net .entries) ≡ trialsOf s
+  unfolding endNumber
+  at-limit Balanced e h = absurd (let y : ⊥ = omega arith in y)
+  at-limit (Failed v) e h = absurd (let y : ⊥ = omega arith in y)
+  at-limit (Strayed p) e h = absurd (let y : ⊥ = omega arith in y)
+  at-limit Limit e h = solve-ends-by s net .limit e
+
+-- a number of a run is told only where the run came to it
+of-run : (s : List ℕ) (l : Lent) (P : Net → ℕ → Type 0) (c : ℕ) → (c ≡ 0) ⊎ (6 ≤ c)
+    → ((net : Net) → Runs s l net → endNumber (runIn s net .ended) ≡ c → P net (endPlace (trialsOf s) (runIn s net .ended)))
+    → solveOf s l .answer .number ≡ c → (net : Net) × (Runs s l net × P net (solveOf s l .answer .place))
+of-run s l P c low f a = go (solveOf s l .answer .number) (solveOf s l .answer .place) (cause-of-told s l) a
+  where
+    go : (n p : ℕ) → Cause s l n p → n ≡ c → (net : Net) × (Runs s l net × P net p)
+    go n p (sheet r e) a = absurd (let y : ⊥ = ⊎-elim (λ (q : c ≡ 0). omega (arith, least-one r)) (λ (q : 6 ≤ c). omega (arith, most-four r)) low in y)
+    go n p (short net q e g) a = absurd (let y : ⊥ = ⊎-elim (λ (q : c ≡ 0). omega arith) (λ (q : 6 ≤ c). omega arith) low in y)
+    go n p (ended net w) a = (net, (w, f net w a))
+
+module _ (s : List ℕ) (l : Lent) where
+  -- 0: the last trial converged.
+  pub zero-converged : solveOf s l .answer .number ≡ 0 → (net : Net) × (Runs s l net × (lastIn s net ≡ Converged))
+  zero-converged = of-run s l (λ net p. lastIn s net ≡ Converged) 0 (inl refl) (λ net w a. at-converged s l net w (runIn s net .ended) refl a)
+
+  -- 6: the last trial's factorization stopped at the place, which no Active PRV or PSV touches and which is grounded already.
+  pub six-singular : solveOf s l .answer .number ≡ 6 → (net : Net) × (Runs s l net × Refuses s (net .nodes) (net .links) (beforeLast s net .state) (solveOf s l .answer .place))
+  six-singular = of-run s l (λ net p. Refuses s (net .nodes) (net .links) (beforeLast s net .state) p) 6 (inr (omega arith)) (λ net w a. at-failed s l net w (runIn s net .ended) refl a)
+
+  -- 7: the last trial stepped to a head or flow at the place that is NaN, infinite or at least 2^64 in magnitude.
+  pub seven-wild : solveOf s l .answer .number ≡ 7 → (net : Net) × (Runs s l net × (lastIn s net ≡ Wild (solveOf s l .answer .place)))
+  seven-wild = of-run s l (λ net p. lastIn s net ≡ Wild p) 7 (inr (omega arith)) (λ net w a. at-strayed s l net w (runIn s net .ended) refl a)
+
+  -- 8: every allowed trial was used up.
+  pub eight-limit : solveOf s l .answer .number ≡ 8 → (net : Net) × (Runs s l net × (length (runIn s net .entries) ≡ trialsOf s))
+  eight-limit = of-run s l (λ net p. length (runIn s net .entries) ≡ trialsOf s) 8 (inr (omega arith)) (λ net w a. at-limit s l net w (runIn s net .ended) refl a)

@@ -34,14 +34,14 @@ use Rattle.entries.specs.declared.Mark.{Mark}
 use Rattle.entries.specs.declared.Tally.{Tally}
 use Rattle.entries.proofs.Laws.{put-long}
 use Rattle.runs.specs.Run.{after, runWith}
-use Rattle.answers.specs.Answers.{Lent, Solved, failedOf, refusedOf, unsolved, delivered, told}
-use Rattle.solver.specs.Solve.{trialsOf, solvedWith, solveWith, solveOf}
+use Rattle.answers.specs.Answers.{Lent, failedOf, refusedOf, unsolved, delivered, told}
+use Rattle.solver.specs.Solve.{trialsOf, solveOf}
 use Rattle.solver.proofs.Laws.{network-of}
 use Rattle.promises.specs.Count.{count}
 use Rattle.promises.specs.Trials.{startPoint, runIn, pointIn}
 use Rattle.promises.specs.Solves.{Runs}
 use Rattle.promises.specs.Marks.{marked, Counted, Shown}
-use Rattle.promises.proofs.Never.{other, never}
+use Rattle.promises.proofs.Never.{never}
 use Rattle.promises.proofs.Repairs as repairs
 use Rattle.promises.proofs.Trials.{solve-each-entry}
 use Rattle.promises.proofs.Bound.{stop-node}

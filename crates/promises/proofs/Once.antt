@@ -1,11 +1,11 @@
 -- Demand 3: a node is grounded at most once in a solve, as marks are never cleared. Assumes nothing.
-use Prim.Native.Nat.{ℕ, zero, suc, _+_, _-_, _≤_, _<_}
-use mathlib.Core.Path.{_≡_, refl, sym, ap, _∙_}
+use Prim.Native.Nat.{ℕ, zero, suc, _+_, _-_, _<_}
+use mathlib.Core.Path.{_≡_, sym, ap, _∙_}
 use mathlib.Core.List.{List}
-use mathlib.Core.Bool.{Bool, true, false}
+use mathlib.Core.Bool.{true, false}
 use native.Mathlib.Omega.{arith}
 use native.Mathlib.Nat.{zero-add, suc-add}
-use lib.ListN.{length, getD, set}
+use lib.ListN.{length, getD}
 use lib.Seq.{getD-set-same, getD-set-other}
 use Rattle.sheet.specs.Read.{readOf}
 use Rattle.sheet.specs.declared.reading.Net.{Net}
@@ -16,7 +16,7 @@ use Rattle.repair.specs.declared.Entry.the-variants.{Grounded, Converged}
 use Rattle.trial.specs.Trial.{Room, Outcome, stepOf}
 use Rattle.solver.specs.Solve.{trialsOf}
 use Rattle.promises.specs.Repairs.{Grounds}
-use Rattle.promises.specs.Trials.{Point, trialAt, runAt, next, afterTrials, startPoint, runIn}
+use Rattle.promises.specs.Trials.{Point, trialAt, runAt, afterTrials, startPoint, runIn}
 use Rattle.promises.proofs.Never.{never}
 use Rattle.promises.proofs.Repairs.{ways, grounds, grounded-only}
 use Rattle.promises.proofs.Trials.{each-entry, each-state}

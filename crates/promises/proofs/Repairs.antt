@@ -8,7 +8,7 @@ use native.Mathlib.Nat.{eq-or-lt-of-le}
 use native.Mathlib.Omega.{arith}
 use borrow.Author.Tests.{eqb-true}
 use lib.Dec.{eqb}
-use lib.ListN.{getD, set}
+use lib.ListN.{getD}
 use lib.Ieee.{Float}
 use Rattle.records.specs.Offsets.{linkOffset}
 use Rattle.records.specs.Records.{optionsOf}
@@ -28,9 +28,8 @@ use Rattle.state.specs.State.{State, solvedHeads}
 use Rattle.state.specs.Wild.{wildPlace}
 use Rattle.update.specs.Update.{step, updateOf}
 use Rattle.update.specs.declared.Stats.{Stats}
-use Rattle.repair.specs.Repair.{touches, regulatesAt, regulatorFrom, regulatorAt, repairAt}
-use Rattle.repair.specs.declared.Entry.{Entry}
-use Rattle.repair.specs.declared.Entry.the-variants.{Freed, Grounded, Singular, Wild, Stepped, Converged}
+use Rattle.repair.specs.Repair.{touches, regulatesAt, regulatorFrom, regulatorAt}
+use Rattle.repair.specs.declared.Entry.the-variants.{Freed, Grounded, Singular, Stepped, Converged}
 use Rattle.repair.specs.declared.Damping.{Damping}
 use Rattle.repair.specs.declared.LinkIndex.{LinkIndex}
 use Rattle.repair.proofs.Laws.{regulator-below, regulator-is, repair-frees, repair-grounds, repair-singular}
@@ -61,7 +60,7 @@ module _ (s : List ℕ) (n : ℕ) (codes : List ℕ) (node : ℕ) where
       go true p ih e = other (cc)
       go false p ih e = ⊎-elim (λ (q : i ≡ m). rw (← q) p) (λ (q : i < m). ih e m q (omega arith)) (eq-or-lt-of-le a)
 
-  -- the regulator that a trial looks for is the lowest-numbered Active PRV or PSV touching the node
+  -- The regulator that a trial looks for is the lowest-numbered Active PRV or PSV touching the node, where there is one; it finds none only where there is none.
   pub lowest : (k j : ℕ) → regulatorAt s n k codes node ≡ At j → Lowest s n k codes node j
   unfolding regulatorAt
   lowest k j e = record { one = regulator-below s n codes node k j e; is = regulator-is s n codes node k j e; first = λ i l. passed k 0 j e i (omega arith) l }
@@ -89,11 +88,11 @@ module _ (s : List ℕ) (n : ℕ) (codes : List ℕ) (node : ℕ) where
       go Nothing e = refl
       go (At i) e = let u = lowest k i e in never (sym (w .none i (u .one)) ∙ u .is)
 
--- it is a PRV or PSV, it touches the node, and it is Active (2)
 both-true : (a b : Bool) → (a && b) ≡ true → (a ≡ true) × (b ≡ true)
 both-true true b e = (refl, e)
 both-true false b e = never e
 
+-- A link that regulates at a node is a PRV or PSV, it touches the node, and it is Active (2).
 pub regulates : (s : List ℕ) (n : ℕ) (codes : List ℕ) (node j : ℕ) → regulatesAt s n codes node j ≡ true
     → (regulator s (linkOffset n j) ≡ true) × (touches s n node j ≡ true) × (getD codes j 0 ≡ 2)
 unfolding regulatesAt

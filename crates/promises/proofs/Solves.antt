@@ -2,7 +2,6 @@
 use Prim.Native.Nat.{ℕ}
 use mathlib.Core.Path.{_≡_, refl}
 use mathlib.Core.List.{List}
-use lib.ListN.{length}
 use Rattle.refusals.specs.Refusals.{numberOf, placeOf}
 use Rattle.refusals.specs.declared.refusals.Refusal.{Refusal}
 use Rattle.sheet.specs.Read.{readOf}
@@ -11,15 +10,12 @@ use Rattle.sheet.specs.declared.layout.Found.the-variants.{At, Nothing}
 use Rattle.sheet.specs.declared.reading.Net.{Net}
 use Rattle.sheet.specs.declared.reading.Reading.{Reading}
 use Rattle.sheet.specs.declared.reading.Reading.the-variants.{Good, Refused}
-use Rattle.nodes.specs.declared.numbering.NodeIndex.{NodeIndex}
 use Rattle.trial.specs.Trial.{Repair, repairOf}
 use Rattle.entries.specs.Entries.{none, written, tallied}
-use Rattle.entries.specs.declared.Ended.{Ended}
-use Rattle.entries.specs.declared.Ended.the-variants.{Balanced, Failed, Strayed, Limit}
-use Rattle.runs.specs.Run.{finish, runWith}
-use Rattle.answers.specs.Answers.{Lent, Solved, Enough, shortOf, refusedOf, unsolved, delivered, told}
+use Rattle.runs.specs.Run.{finish}
+use Rattle.answers.specs.Answers.{Lent, Solved, Enough, refusedOf, told}
 use Rattle.answers.proofs.Laws.{enough}
-use Rattle.solver.specs.Solve.{trialsOf, startOf, runOf, solvedWith, afterShort, afterRead, solveWith, solveOf}
+use Rattle.solver.specs.Solve.{trialsOf, runOf, solvedWith, afterShort, afterRead, solveWith}
 use Rattle.promises.specs.Trials.{startPoint, runIn}
 use Rattle.promises.specs.Solves.{shortIn, Runs}
 

@@ -1,7 +1,7 @@
 -- Demand 2: each entry of a run, and the state after it, follow from the state before it. Assumes nothing.
-use Prim.Native.Nat.{ℕ, zero, suc, _+_, _≤_, _<_}
-use mathlib.Core.Path.{_≡_, refl, sym, ap, _∙_}
-use mathlib.Core.List.{List, [], _∷_}
+use Prim.Native.Nat.{ℕ, zero, suc, _<_}
+use mathlib.Core.Path.{_≡_, refl}
+use mathlib.Core.List.{List}
 use mathlib.Core.Bool.{Bool, true, false, cond}
 use native.Mathlib.Omega.{arith}
 use lib.ListN.{length, getD}
@@ -9,7 +9,6 @@ use lib.Ieee.{Float, le, lt, eq, ofBits, ofFields, odd}
 use lib.Count.{trailingZeros}
 use Rattle.records.specs.Records.{optionsOf}
 use Rattle.records.specs.declared.records.Options.{Options}
-use Rattle.constants.specs.Constants as constant
 use Rattle.sheet.specs.declared.layout.Found.{Found}
 use Rattle.sheet.specs.declared.layout.Found.the-variants.{At, Nothing}
 use Rattle.sheet.specs.declared.reading.Net.{Net}
@@ -22,11 +21,11 @@ use Rattle.update.specs.declared.Stats.{Stats}
 use Rattle.repair.specs.declared.Damping.{Damping}
 use Rattle.repair.specs.declared.Entry.{Entry}
 use Rattle.repair.specs.declared.Entry.the-variants.{Freed, Grounded, Singular, Wild, Stepped, Converged}
-use Rattle.trial.specs.Trial.{Outcome, repairOf, judged, verdict, stepOf, trialOf}
+use Rattle.trial.specs.Trial.{Outcome, repairOf, judged, verdict, stepOf}
 use Rattle.entries.specs.Entries.{dampingStart, goingOf}
 use Rattle.entries.specs.declared.Going.{Going}
 use Rattle.entries.specs.declared.Going.the-variants.{On, Over}
-use Rattle.runs.specs.Run.{Run, after, runWith}
+use Rattle.runs.specs.Run.{after, runWith}
 use Rattle.solver.specs.Solve.{trialsOf}
 use Rattle.promises.specs.Trials.{Point, point, trialAt, runAt, dampingAfter, next, afterTrials, startPoint, runIn, pointIn, Damped}
 use Rattle.promises.proofs.Never.{other}

@@ -16,7 +16,7 @@ use Rattle.entries.specs.declared.Ended.the-variants.{Balanced, Failed, Strayed
 use Rattle.runs.specs.Run.{Run}
 use Rattle.answers.specs.Answers.{Lent}
 use Rattle.solver.specs.Solve.{trialsOf}
-use Rattle.promises.specs.Trials.{runIn}
+use Rattle.promises.specs.Trials.{Point, runIn, pointIn}
 use Rattle.promises.specs.Solves.{shortIn, Runs}
 
 -- the number and the place of each end of a run of at most so many trials
@@ -53,3 +53,10 @@ pub record EndsBy (m : ℕ) (r : Run) : Type 0 where
   pub last : 1 ≤ m → r .ended ≡ endBy (getD (r .entries) (length (r .entries) - 1) Converged)
   pub on : (i : ℕ) → suc i < length (r .entries) → endBy (getD (r .entries) i Converged) ≡ Limit
   pub limit : r .ended ≡ Limit → length (r .entries) ≡ m
+
+-- the last entry of the run of a sheet, and where the run stands before it
+unfoldable pub lastIn : List ℕ → Net → Entry
+lastIn s net = getD (runIn s net .entries) (length (runIn s net .entries) - 1) Converged
+
+unfoldable pub beforeLast : List ℕ → Net → Point
+beforeLast s net = pointIn s net (length (runIn s net .entries) - 1)
