@@ -12,58 +12,27 @@
 size_t linear_bench_factor(double *a, size_t length, size_t n);
 void linear_bench_substitute(const double *l, size_t l_length, size_t n, double *x, size_t x_length);
 
-enum { STRIDE = 64, SIZE = STRIDE * STRIDE, RUNS = 4001, VARIANTS = 3 };
+enum { STRIDE = 64, SIZE = STRIDE * STRIDE, RUNS = 4001, VARIANTS = 2 };
 
-/* crate roots' root, of a finite number above zero: its digits one by one */
-static double digit_root(double x)
+/* the root is the processor's own */
+__attribute__((noinline)) size_t c_factor(double *a, size_t n)
 {
-    uint64_t p;
-    memcpy(&p, &x, 8);
-    uint64_t f = p >> 52, m = p & ((1ull << 52) - 1);
-    if (f == 0)
-        f = 1;
-    else
-        m += 1ull << 52;
-    uint64_t s = __builtin_clzll(m) - 11, e = f + 51 - s;
-    uint64_t a = m << (s + e % 2) << 10, rest = 0, r = 0;
-    for (int i = 0; i < 54; i++) {
-        rest = (rest << 2) + (a >> 62);
-        a <<= 2;
-        uint64_t next = (r << 2) + 1;
-        if (next <= rest) {
-            rest -= next;
-            r = (r << 1) + 1;
-        } else {
-            r <<= 1;
+    for (size_t c = 0; c < n; c++) {
+        double *column = a + STRIDE * c;
+        for (size_t k = 0; k < c; k++) {
+            double f = a[STRIDE * k + c];
+            for (size_t r = c; r < n; r++)
+                column[r] -= a[STRIDE * k + r] * f;
         }
+        if (!(0 < column[c]))
+            return c;
+        double d = sqrt(column[c]);
+        column[c] = d;
+        for (size_t r = c + 1; r < n; r++)
+            column[r] /= d;
     }
-    p = ((e / 2 + 485) << 52) + (r + 1) / 2;
-    memcpy(&x, &p, 8);
-    return x;
+    return n;
 }
-
-#define FACTOR(name, root)                                     \
-    __attribute__((noinline)) size_t name(double *a, size_t n) \
-    {                                                          \
-        for (size_t c = 0; c < n; c++) {                       \
-            double *column = a + STRIDE * c;                   \
-            for (size_t k = 0; k < c; k++) {                   \
-                double f = a[STRIDE * k + c];                  \
-                for (size_t r = c; r < n; r++)                 \
-                    column[r] -= a[STRIDE * k + r] * f;        \
-            }                                                  \
-            if (!(0 < column[c]))                              \
-                return c;                                      \
-            double d = root(column[c]);                        \
-            column[c] = d;                                     \
-            for (size_t r = c + 1; r < n; r++)                 \
-                column[r] /= d;                                \
-        }                                                      \
-        return n;                                              \
-    }
-
-FACTOR(c_factor, digit_root)
-FACTOR(c_factor_sqrt, sqrt)
 
 static size_t proved_factor(double *a, size_t n)
 {
@@ -91,8 +60,8 @@ static void proved_substitute(const double *l, size_t n, double *x)
     linear_bench_substitute(l, SIZE, n, x, STRIDE);
 }
 
-static size_t (*const factors[VARIANTS])(double *, size_t) = {proved_factor, c_factor, c_factor_sqrt};
-static void (*const substitutes[VARIANTS])(const double *, size_t, double *) = {proved_substitute, c_substitute, c_substitute};
+static size_t (*const factors[VARIANTS])(double *, size_t) = {proved_factor, c_factor};
+static void (*const substitutes[VARIANTS])(const double *, size_t, double *) = {proved_substitute, c_substitute};
 
 static double given[SIZE], given_right[STRIDE], matrix[VARIANTS][SIZE], right[VARIANTS][STRIDE];
 static double factor_times[VARIANTS][RUNS], substitute_times[VARIANTS][RUNS];
@@ -162,9 +131,8 @@ int main(void)
             for (size_t v = 0; v < VARIANTS; v++)
                 run(v, n, i);
         }
-        double proved = median(factor_times[0]), c = median(factor_times[1]), c_sqrt = median(factor_times[2]);
-        printf("%zu unknowns, factor: proved %.2f us, C %.2f us, ratio %.2f; C with the processor's root %.2f us, ratio %.2f\n",
-               n, proved, c, proved / c, c_sqrt, proved / c_sqrt);
+        double proved = median(factor_times[0]), c = median(factor_times[1]);
+        printf("%zu unknowns, factor: proved %.2f us, C %.2f us, ratio %.2f\n", n, proved, c, proved / c);
         proved = median(substitute_times[0]), c = median(substitute_times[1]);
         printf("%zu unknowns, substitute: proved %.2f us, C %.2f us, ratio %.2f\n", n, proved, c, proved / c);
     }

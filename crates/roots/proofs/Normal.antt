@@ -105,6 +105,6 @@ pub scaled-as : (p m f : ℕ) → Positive p → m ≡ significand p → f ≡ f
 unfolding scaled exponent moved
 scaled-as p m f h em ef = rw (em, ef) (small (scaled p) (scaled-in p h .1))
 
-pub bits-as : (p m f r : ℕ) → m ≡ significand p → f ≡ field p → r ≡ wholeRoot (scaled p * 2 ^ 54) → ((f + 51 - up m) / 2 + 485) * 2 ^ 52 + (r + 1) / 2 ≡ rootBits p
+pub bits-as : (p m f r : ℕ) → m ≡ significand p → f ≡ field p → r ≡ (wholeRoot (scaled p * 2 ^ 54) + 1) / 2 → ((f + 51 - up m) / 2 + 485) * 2 ^ 52 + r ≡ rootBits p
 unfolding rootBits exponent moved
 bits-as p m f r em ef er = rw (em, ef, er)

@@ -1,6 +1,6 @@
 -- `roots::square_root::root_bits` meets its contract. Assumes nothing.
 use mathlib.Core.Path.{_≡_, ap, _∙_}
-use Prim.Native.Nat.{ℕ, _+_, _-_, _*_, _%_, _^_}
+use Prim.Native.Nat.{ℕ, _+_, _-_, _*_, _/_, _%_, _^_}
 use native.Mathlib.Omega.{arith}
 use borrow.Author.Needs.{needs}
 use lib.Count.{leadingZeros}
@@ -54,20 +54,20 @@ add-result c = search needs
 mul-result : tie.Need-mul-result
 mul-result c = search needs
 
-whole-root-requires : tie.Need-whole-root-requires
-whole-root-requires c κs = rw (n-is c) (scaled-in _ (pos (c .before)) .1)
+guess-requires : tie.Need-guess-requires
+guess-requires c κs = search needs
 
-root-is : (c : tie.After-whole-root) → c .whole-root .result ≡ wholeRoot (scaled (p (c .before .before)) * 2 ^ 54)
-root-is c = c .whole-root .ensures ∙ ap (λ (k : ℕ). wholeRoot (k * 2 ^ 54)) (n-is (c .before))
+nearest-root-requires : tie.Need-nearest-root-requires
+nearest-root-requires c κs = (rw (n-is (c .before)) (scaled-in _ (pos (c .before .before)) .1), c .guess .ensures)
+
+root-is : (c : tie.After-nearest-root) → c .nearest-root .result ≡ (wholeRoot (scaled (p (c .before .before .before)) * 2 ^ 54) + 1) / 2
+root-is c = c .nearest-root .ensures ∙ ap (λ (k : ℕ). (wholeRoot (k * 2 ^ 54) + 1) / 2) (n-is (c .before .before))
 
 add-result-2 : tie.Need-add-result-2
-add-result-2 c = omega (arith, root-is c, root-in _ (pos (c .before .before)))
-
-add-result-3 : tie.Need-add-result-3
-add-result-3 c = search needs
+add-result-2 c = omega (arith, root-is c, root-in _ (pos (c .before .before .before)))
 
 returns : tie.Need-returns
-returns c = bits-as _ _ _ _ (c .before .before .significand .ensures) (c .before .field .ensures) (root-is c)
+returns c = bits-as _ _ _ _ (c .before .before .before .significand .ensures) (c .before .before .field .ensures) (root-is c)
 
 pub root-bits-spec : {M : Type 1} → statement M
-root-bits-spec = tie.close (tie.spec significand-requires cast-s sub-s field-requires add-e sub-e add-n shl-n add-result mul-result whole-root-requires add-result-2 add-result-3 returns)
+root-bits-spec = tie.close (tie.spec significand-requires cast-s sub-s field-requires add-e sub-e add-n shl-n add-result mul-result guess-requires nearest-root-requires add-result-2 returns)

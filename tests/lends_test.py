@@ -1,0 +1,31 @@
+"""What crate lends runs is what tools/lends.py makes of document 01 and the stored list, and reaches every number and place."""
+import os
+import sys
+import unittest
+
+TOP = os.path.dirname(os.path.dirname(os.path.abspath(__file__)))
+sys.path.insert(0, os.path.join(TOP, "tools"))
+
+import lends
+from stored import read
+
+
+class Lends(unittest.TestCase):
+    def test_stored_files_are_what_the_generator_makes(self):
+        for name, data in lends.files().items():
+            self.assertTrue(read(name) == data, name + " is not what tools/lends.py makes")
+
+    def test_reaches_every_number_and_every_buffer(self):
+        lines = read("crates/lends/stdout").decode().splitlines()
+        for start in ["A %d " % number for number in range(9)] + ["A 5 %d " % place for place in range(6)]:
+            self.assertTrue(any(line.startswith(start) for line in lines), start)
+        for line in lines:
+            words = line.split()
+            if words[1] in "12345":
+                self.assertEqual(words[3:], ["0"] * 3 + ["-"] * 6)
+            elif words[1] != "0":
+                self.assertEqual(words[6:10], ["-"] * 4)
+
+
+if __name__ == "__main__":
+    unittest.main()
