@@ -20,11 +20,16 @@ def toolchain():
     return os.path.join(home, "on", platform.machine(), "toolchain")
 
 
-def command(name, *args):
+def by_loader(program):
+    """The words that start an x86-64 program here."""
     tools = toolchain()
     emulator = os.path.join(tools, "bin", "qemu-x86_64")
     loader = [os.path.join(tools, "lib", "ld-linux-x86-64.so.2"), "--library-path", os.path.join(tools, "lib")]
-    return ([emulator] if os.path.exists(emulator) else []) + loader + [path(name), *args]
+    return ([emulator] if os.path.exists(emulator) else []) + loader + [program]
+
+
+def command(name, *args):
+    return by_loader(path(name)) + list(args)
 
 
 def run(name, data, *args):

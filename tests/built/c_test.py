@@ -1,0 +1,67 @@
+"""The example in C over include/desk.h and libdesk.a, built and run: natively on x86-64, elsewhere with the kit's
+compiler and emulator, since the library is for x86-64."""
+import os
+import platform
+import subprocess
+import sys
+import tempfile
+import unittest
+
+ROOT = os.path.dirname(os.path.dirname(os.path.dirname(os.path.abspath(__file__))))
+sys.path.insert(0, os.path.join(ROOT, "tools"))
+
+import listings  # noqa: E402
+import programs  # noqa: E402
+
+SOURCE = os.path.join(ROOT, "examples", "c", "solve.c")
+INCLUDE = os.path.join(ROOT, "include")
+LIBRARY = os.path.join(ROOT, "target", "staticlib", "libdesk.a")
+
+
+def said(*words):
+    return subprocess.run(words, stdout=subprocess.PIPE, check=True, universal_newlines=True).stdout.strip()
+
+
+def build_here(program):
+    said("gcc", "-O2", "-Wall", "-Wextra", "-Werror", "-I", INCLUDE, "-o", program, SOURCE, LIBRARY)
+    return [program]
+
+
+def build_by_kit(program):
+    tools = programs.toolchain()
+    headers = [said("gcc", "-print-file-name=include"), "/usr/include/" + said("gcc", "-dumpmachine"), "/usr/include"]
+    places = [word for place in headers for word in ("-isystem", place)]
+    said(os.path.join(tools, "bin", "clang"), "--target=x86_64-unknown-linux-gnu", "-O2", "-fPIC", *places, "-I", INCLUDE,
+         "-c", SOURCE, "-o", program + ".o")
+    link = os.path.join(os.path.dirname(tools), "bin", "rattle-link")
+    said(link, "--target", "x86_64-unknown-linux-gnu", "--toolchain", tools, "-o", program, program + ".o", LIBRARY)
+    return programs.by_loader(program)
+
+
+class FromC(unittest.TestCase):
+    def test_short_buffers_are_refused_and_later_entries_stay(self):
+        said("rt", "staticlib", "desk")
+        with tempfile.TemporaryDirectory() as folder:
+            build = build_here if platform.machine() == "x86_64" else build_by_kit
+            command = build(os.path.join(folder, "solve"))
+            for name in ("looped", "june", "night", "document01"):
+                with self.subTest(name):
+                    self.check(command, os.path.join(ROOT, "examples", name + ".sheet"))
+            refused = said(*command, os.path.join(ROOT, "examples", "refused.sheet"))
+            self.assertEqual(refused, "number 3, place 168, 0 trials, 0 freed, 0 grounded")
+
+    def check(self, command, path):
+        with open(path, "rb") as file:
+            listing = listings.Listing(programs.run("listing", file.read()).decode("ascii"))
+        lines = said(*command, path).splitlines()
+        self.assertEqual(lines[0], "number 0, place 0, %d trials, %d freed, %d grounded" % (
+            listing.trials, listing.freed, listing.grounded))
+        heads = ["node %d: head %.4f ft, demand %.4f cfs" % (i, head, demand)
+                 for i, (head, demand) in enumerate(zip(listing.heads, listing.demands))]
+        self.assertEqual(lines[1:-2], heads)
+        self.assertEqual(lines[-2:], ["entries past the sheet's own stay as they were",
+                                      "each buffer one entry short: refused with 5 at its place, nothing changed"])
+
+
+if __name__ == "__main__":
+    unittest.main()
