@@ -12,3 +12,5 @@ pub mod Unmended
 pub mod Buffers
 pub mod Causes
 pub mod One
+pub mod Quick
+pub mod Example

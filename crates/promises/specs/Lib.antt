@@ -9,3 +9,4 @@ pub mod Solves
 pub mod Marks
 pub mod Buffers
 pub mod Causes
+pub mod Example

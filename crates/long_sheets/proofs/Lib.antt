@@ -1,0 +1,4 @@
+pub mod Feeding
+pub mod Marks
+pub mod Long
+pub mod Listed

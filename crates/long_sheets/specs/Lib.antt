@@ -1,0 +1,1 @@
+-- The specs of `long_sheets`: none of its own.

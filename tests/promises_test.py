@@ -1,0 +1,56 @@
+"""docs/PROMISES.md names every public function and every must-fail edit, and no edit that is not there."""
+import glob
+import os
+import re
+import unittest
+
+ROOT = os.path.dirname(os.path.dirname(os.path.abspath(__file__)))
+
+
+def read(*parts):
+    with open(os.path.join(ROOT, *parts), encoding="utf-8") as file:
+        return file.read()
+
+
+def libraries():
+    lines = [line for line in read("crates.txt").splitlines() if ":" in line and not line.startswith("#")]
+    names = [line.split(":")[0] for line in lines]
+    return [name for name in names if os.path.exists(os.path.join(ROOT, "crates", name, "src", "lib.rt"))]
+
+
+def public_functions(crate):
+    """Those of lib.rt itself, and those of its modules that it passes on."""
+    top = read("crates", crate, "src", "lib.rt")
+    found = re.findall(r'^pub (?:extern "C" )?fn (\w+)', top, re.M)
+    for module, name in re.findall(r"^pub use (\w+)::(\w+);", top, re.M):
+        path = os.path.join("crates", crate, "src", module + ".rt")
+        if os.path.exists(os.path.join(ROOT, path)) and re.search(r"^pub fn %s\b" % name, read(path), re.M):
+            found.append(name)
+    return found
+
+
+class Rows(unittest.TestCase):
+    @classmethod
+    def setUpClass(cls):
+        cls.paper = read("docs", "PROMISES.md")
+
+    def test_every_public_function_is_named(self):
+        functions = [(crate, name) for crate in libraries() for name in public_functions(crate)]
+        self.assertGreater(len(functions), 60)
+        self.assertEqual([pair for pair in functions if "`%s`" % pair[1] not in self.paper], [])
+
+    def test_every_edit_is_named(self):
+        edits = [os.path.basename(path)[:-len(".edit")] for path in glob.glob(os.path.join(ROOT, "crates", "*", "must-fail", "*.edit"))]
+        self.assertGreater(len(edits), 200)
+        words = set(re.findall(r"\w+", self.paper))
+        self.assertEqual(sorted(edit for edit in edits if edit not in words), [])
+
+    def test_every_library_but_the_bare_has_edits(self):
+        bare = {"constants", "nearest"}  # definitions and one theorem each, with one edit
+        for crate in libraries():
+            edits = glob.glob(os.path.join(ROOT, "crates", crate, "must-fail", "*.edit"))
+            self.assertGreaterEqual(len(edits), 1 if crate in bare else 2, crate)
+
+
+if __name__ == "__main__":
+    unittest.main()
