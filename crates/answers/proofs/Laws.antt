@@ -20,7 +20,7 @@ use Rattle.entries.specs.declared.Ended.{Ended}
 use Rattle.entries.specs.declared.Ended.the-variants.{Balanced, Failed, Strayed, Limit}
 use Rattle.entries.specs.declared.Tally.{Tally}
 use Rattle.answers.specs.declared.Answer.{Answer}
-use Rattle.answers.specs.Answers.{Lent, lent, shortOf, failedOf, emptied, unsolved, delivered, told, Enough}
+use Rattle.answers.specs.Answers.{Lent, lent, shortOf, failedOf, emptied, unsolved, delivered, settledBy, told, Enough}
 
 passed : (a b x : ℕ) (f : Found) → cond (ltb a b) (At x) f ≡ Nothing → (b ≤ a) × (f ≡ Nothing)
 passed a b x f e = go (ltb a b) refl e
@@ -67,3 +67,21 @@ module _ (s : List ℕ) (net : Net) (trials : ℕ) (l : Lent) (t : State) (tally
       → record { answer = a; lent = lent (l .heads) (l .demands) (l .flows) (l .statuses) bytes (emptied (l .scratch)) } ≡ told s net trials l t tally bytes ended
   unfolding told unsolved
   told-limit a e ea = rw (e, ea)
+
+-- what the run's own demands become
+module _ (ended : Ended) (n : ℕ) (d e : List Float) where
+  pub settled-balanced : ended ≡ Balanced → e ≡ settledOf n d → e ≡ settledBy ended n d
+  unfolding settledBy
+  settled-balanced h k = rw h k
+
+  pub settled-failed : (node : NodeIndex) → ended ≡ Failed node → e ≡ d → e ≡ settledBy ended n d
+  unfolding settledBy
+  settled-failed node h k = rw h k
+
+  pub settled-strayed : (place : ℕ) → ended ≡ Strayed place → e ≡ d → e ≡ settledBy ended n d
+  unfolding settledBy
+  settled-strayed place h k = rw h k
+
+  pub settled-limit : ended ≡ Limit → e ≡ d → e ≡ settledBy ended n d
+  unfolding settledBy
+  settled-limit h k = rw h k

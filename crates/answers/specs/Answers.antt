@@ -80,6 +80,13 @@ delivered s net l t tally bytes =
           (copied (net .links) (t .flows) (l .flows)) (copied (net .links) (t .statuses) (l .statuses)) bytes (emptied (l .scratch));
     }
 
+-- the run's own demands after its end is told: on 0 each has gained +0.0
+unfoldable pub settledBy : Ended → ℕ → List Float → List Float
+settledBy Balanced n d = settledOf n d
+settledBy (Failed node) n d = d
+settledBy (Strayed place) n d = d
+settledBy Limit n d = d
+
 -- how the end of a run of at most so many trials is told
 unfoldable pub told : List ℕ → Net → ℕ → Lent → State → Tally → List ℕ → Ended → Solved
 unfolding delivered unsolved

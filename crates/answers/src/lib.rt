@@ -10,7 +10,7 @@ ghost use Rattle.records.specs.Offsets.{linkOffset};
 ghost use Rattle.sheet.specs.Ends.{EndsBelow};
 ghost use Rattle.state.specs.State.{state};
 ghost use Rattle.columns.specs.Columns.{copied};
-ghost use Rattle.answers.specs.Answers.{lent, shortOf, failedOf, emptied, told};
+ghost use Rattle.answers.specs.Answers.{lent, shortOf, failedOf, emptied, settledBy, told};
 use columns::copy_bytes;
 use columns::copy_floats;
 use entries::Ended;
@@ -125,7 +125,8 @@ pub fn conclude(
     requires { ⌜ EndsBelow (net .nodes) (net .links) (now sheet) ⌝ }
     requires { ⌜ (net .nodes ≤ length (now heads)) × (net .nodes ≤ length (now demands)) × (net .links ≤ length (now flows)) × (net .links ≤ length (now statuses)) ⌝ }
     requires { ⌜ (net .nodes ≤ length (now h)) × (net .nodes ≤ length (now d)) × (net .links ≤ length (now q)) × (net .links ≤ length (now s)) ⌝ }
-    ensures { λ r. ⌜ ((marks : List Bool) (bytes record₀ : List ℕ) (scratch : List Float) → record { answer = r; lent = lent (now (heads .exit)) (now (demands .exit)) (now (flows .exit)) (now (statuses .exit)) bytes (emptied scratch) } ≡ told (now (sheet .entry)) net trials (lent (now (heads .entry)) (now (demands .entry)) (now (flows .entry)) (now (statuses .entry)) record₀ scratch) (state (now (h .entry)) (now (d .entry)) (now (q .entry)) (now (s .entry)) marks) tally bytes ended) ⌝ }
+    ensures told { λ r. ⌜ ((marks : List Bool) (bytes record₀ : List ℕ) (scratch : List Float) → record { answer = r; lent = lent (now (heads .exit)) (now (demands .exit)) (now (flows .exit)) (now (statuses .exit)) bytes (emptied scratch) } ≡ told (now (sheet .entry)) net trials (lent (now (heads .entry)) (now (demands .entry)) (now (flows .entry)) (now (statuses .entry)) record₀ scratch) (state (now (h .entry)) (now (d .entry)) (now (q .entry)) (now (s .entry)) marks) tally bytes ended) ⌝ }
+    ensures settled { λ _. ⌜ now (d .exit) ≡ settledBy ended (net .nodes) (now (d .entry)) ⌝ }
 {
     match ended {
         Ended::Balanced => {

@@ -100,7 +100,7 @@ returns c =
     let q = k .start-links .last .1 .1 .1 in
     let w = o .conclude .last .1 .1 .1 .1 .1 .1 .1 .1 .1 in
     let out : List Float → Solved = λ x. record { answer = o .conclude .result; lent = lent (w .0) (w .1 .0) (w .1 .1 .0) (w .1 .1 .1 .0) (f .1 .1 .1 .1 .1 .0) x } in
-    solved-of repairOf (a .sheet .now) (a .net) (a .trials) (lent (a .heads .now) (a .demands .now) (a .flows .now) (a .statuses .now) (a .entries .now) (a .scratch .now)) (r .run-trials .result) (f .1 .1 .1 .1 .1 .0) (h .0) (h .1 .0) (q .0) (q .1 .0) (state (f .0) (f .1 .0) (f .1 .1 .0) (f .1 .1 .1 .0) (f .1 .1 .1 .1 .0)) _ (start .pre .1 .0) (j .start-nodes .ensures .0) (j .start-nodes .ensures .1) (k .start-links .ensures .0) (k .start-links .ensures .1) (r .run-trials .ensures .0) (ap out (emptied-part (f .1 .1 .1 .1 .1 .1 .0) (a .scratch .now) (r .run-trials .ensures .1)) ∙ o .conclude .ensures (f .1 .1 .1 .1 .0) (f .1 .1 .1 .1 .1 .0) (a .entries .now) (a .scratch .now))
+    solved-of repairOf (a .sheet .now) (a .net) (a .trials) (lent (a .heads .now) (a .demands .now) (a .flows .now) (a .statuses .now) (a .entries .now) (a .scratch .now)) (r .run-trials .result) (f .1 .1 .1 .1 .1 .0) (h .0) (h .1 .0) (q .0) (q .1 .0) (state (f .0) (f .1 .0) (f .1 .1 .0) (f .1 .1 .1 .0) (f .1 .1 .1 .1 .0)) _ (start .pre .1 .0) (j .start-nodes .ensures .0) (j .start-nodes .ensures .1) (k .start-links .ensures .0) (k .start-links .ensures .1) (r .run-trials .ensures .0) (ap out (emptied-part (f .1 .1 .1 .1 .1 .1 .0) (a .scratch .now) (r .run-trials .ensures .1)) ∙ o .conclude .ensures .0 (f .1 .1 .1 .1 .0) (f .1 .1 .1 .1 .1 .0) (a .entries .now) (a .scratch .now))
 
 table-a-requires : tie.Need-table-a-requires
 table-a-requires c κs = search needs
