@@ -1,7 +1,7 @@
 -- A solve counts at most as many trials as its sheet allows. Assumes nothing.
-use Prim.Native.Nat.{ℕ, zero, suc, _+_, _≤_}
+use Prim.Native.Nat.{ℕ, _≤_}
 use mathlib.Core.Path.{_≡_, refl, sym}
-use mathlib.Core.List.{List, [], _∷_}
+use mathlib.Core.List.{List}
 use native.Mathlib.Omega.{arith}
 use lib.ListN.{length}
 use Rattle.sheet.specs.Read.{readOf}
@@ -10,39 +10,17 @@ use Rattle.sheet.specs.declared.layout.Found.the-variants.{At, Nothing}
 use Rattle.sheet.specs.declared.reading.Reading.{Reading}
 use Rattle.sheet.specs.declared.reading.Reading.the-variants.{Good, Refused}
 use Rattle.sheet.specs.declared.reading.Net.{Net}
-use Rattle.repair.specs.declared.Damping.{Damping}
-use Rattle.repair.specs.declared.Entry.{Entry}
 use Rattle.state.specs.State.{State}
-use Rattle.trial.specs.Trial.{Repair, trialWith}
-use Rattle.entries.specs.Entries.{goingOf, counted, tallied, none, dampingStart}
+use Rattle.trial.specs.Trial.{Repair}
+use Rattle.entries.specs.Entries.{none, dampingStart}
 use Rattle.entries.specs.declared.Ended.{Ended}
 use Rattle.entries.specs.declared.Ended.the-variants.{Balanced, Failed, Strayed, Limit}
-use Rattle.entries.specs.declared.Going.{Going}
-use Rattle.entries.specs.declared.Going.the-variants.{On, Over}
 use Rattle.entries.specs.declared.Tally.{Tally}
-use Rattle.runs.specs.Run.{Run, after, runWith, finish}
-use Rattle.runs.proofs.Laws.{counts}
+use Rattle.runs.specs.Run.{runWith, finish}
+use Rattle.runs.proofs.Laws.{tallied-trials, run-length}
 use Rattle.answers.specs.Answers.{Lent, shortOf, refusedOf, failedOf, unsolved, delivered, told}
 use Rattle.solver.specs.Solve.{trialsOf, startOf, runOf, solvedWith, afterShort, afterRead, solveWith}
 use Rattle.solver.proofs.Laws.{few-trials}
-
--- an entry a trial
-tallied-trials : (t : Tally) (es : List Entry) → tallied t es .trials ≡ t .trials + length es
-unfolding tallied
-tallied-trials t [] = omega arith
-tallied-trials t (e ∷ es) = omega (arith, tallied-trials (counted t e) es, counts t e .trials)
-
-after-length : (e : Entry) (t : State) (g : Going) (next : Damping → State → Run) (m : ℕ) → ((d : Damping) (t : State) → length (next d t .entries) ≤ m) → length (after e t g next .entries) ≤ suc m
-unfolding after
-after-length e t (On d) next m h = omega (arith, h d t)
-after-length e t (Over z) next m h = omega arith
-
-run-length : (repair : Repair) (s : List ℕ) (n k m : ℕ) (d : Damping) (t : State) → length (runWith repair s n k m d t .entries) ≤ m
-unfolding runWith
-run-length repair s n k zero d t = omega arith
-run-length repair s n k (suc m) d t =
-    let o = trialWith repair s n k d t in
-    after-length (o .entry) (o .state) (goingOf d (o .entry)) (runWith repair s n k m) m (run-length repair s n k m)
 
 told-trials : (s : List ℕ) (net : Net) (trials : ℕ) (l : Lent) (t : State) (tally : Tally) (bytes : List ℕ) (ended : Ended) → told s net trials l t tally bytes ended .answer .trials ≡ tally .trials
 unfolding told delivered unsolved failedOf

@@ -32,7 +32,8 @@ use Rattle.promises.specs.Buffers.{Buffers, Over, Delivered}
 use Rattle.promises.proofs.Trials.{solve-last-state}
 use Rattle.promises.proofs.Bound.{room-after, start-room}
 use Rattle.promises.proofs.Solves.{comes, ways, tells}
-use Rattle.promises.proofs.Counts.{written-past, tally-trials}
+use Rattle.runs.proofs.Laws.{tallied-trials}
+use Rattle.promises.proofs.Counts.{written-past}
 
 -- ---- columns
 
@@ -152,7 +153,7 @@ buffers s l =
     (λ net w.
     let es = runIn s net .entries in
     rw (tells s net l)
-    (told-buffers l (tallied none es) (written 0 es (l .entries)) (λ i h. written-past es 0 (l .entries) i (omega (arith, tally-trials es))) s net (trialsOf s) (runIn s net .state) (runIn s net .ended)))
+    (told-buffers l (tallied none es) (written 0 es (l .entries)) (λ i h. written-past es 0 (l .entries) i (omega (arith, tallied-trials none es))) s net (trialsOf s) (runIn s net .state) (runIn s net .ended)))
 
 balanced-delivers : (s : List ℕ) (net : Net) (m : ℕ) (l : Lent) (t : State) (tally : Tally) (bytes : List ℕ) (z : Ended) → Room (net .nodes) (net .links) t
     → told s net m l t tally bytes z .answer .number ≡ 0 → Delivered s net t l (told s net m l t tally bytes z)

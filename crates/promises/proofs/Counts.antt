@@ -24,16 +24,14 @@ use Rattle.nodes.specs.declared.numbering.NodeIndex.{NodeIndex}
 use Rattle.repair.specs.declared.Damping.{Damping}
 use Rattle.repair.specs.declared.Entry.{Entry}
 use Rattle.repair.specs.declared.Entry.the-variants.{Freed, Grounded, Singular, Wild, Stepped, Converged}
-use Rattle.trial.specs.Trial.{Repair, repairOf, Outcome, judged, verdict, stepOf, trialWith, trialOf}
-use Rattle.entries.specs.Entries.{goingOf, markOf, putOf, written, counted, tallied, none}
+use Rattle.trial.specs.Trial.{repairOf, judged, verdict, stepOf, trialOf}
+use Rattle.entries.specs.Entries.{markOf, putOf, written, counted, tallied, none}
 use Rattle.entries.specs.declared.Ended.{Ended}
 use Rattle.entries.specs.declared.Ended.the-variants.{Balanced, Failed, Strayed, Limit}
-use Rattle.entries.specs.declared.Going.{Going}
-use Rattle.entries.specs.declared.Going.the-variants.{On, Over}
 use Rattle.entries.specs.declared.Mark.{Mark}
 use Rattle.entries.specs.declared.Tally.{Tally}
 use Rattle.entries.proofs.Laws.{put-long}
-use Rattle.runs.specs.Run.{after, runWith}
+use Rattle.runs.proofs.Laws.{tallied-trials, run-length}
 use Rattle.answers.specs.Answers.{Lent, failedOf, refusedOf, unsolved, delivered, told}
 use Rattle.solver.specs.Solve.{trialsOf, solveOf}
 use Rattle.solver.proofs.Laws.{network-of}
@@ -176,33 +174,18 @@ count-marks a b es r h =
     rw (w .first, w .second))
 
 record Agrees (t : Tally) (es : List Entry) : Type 0 where
-  trials : tallied t es .trials ≡ t .trials + length es
   freed : tallied t es .freed ≡ t .freed + having 86 70 es
   grounded : tallied t es .grounded ≡ t .grounded + having 71 78 es
 
 agrees : (t : Tally) (es : List Entry) → Agrees t es
 unfolding tallied counted having has markOf
-agrees t [] = record { trials = omega arith; freed = omega arith; grounded = omega arith }
-agrees t (Freed i ∷ es) = let h = agrees (counted t (Freed i)) es in record { trials = omega arith; freed = omega arith; grounded = omega arith }
-agrees t (Grounded i ∷ es) = let h = agrees (counted t (Grounded i)) es in record { trials = omega arith; freed = omega arith; grounded = omega arith }
-agrees t (Singular i ∷ es) = let h = agrees (counted t (Singular i)) es in record { trials = omega arith; freed = omega arith; grounded = omega arith }
-agrees t (Wild p ∷ es) = let h = agrees (counted t (Wild p)) es in record { trials = omega arith; freed = omega arith; grounded = omega arith }
-agrees t (Stepped d ∷ es) = let h = agrees (counted t (Stepped d)) es in record { trials = omega arith; freed = omega arith; grounded = omega arith }
-agrees t (Converged ∷ es) = let h = agrees (counted t Converged) es in record { trials = omega arith; freed = omega arith; grounded = omega arith }
-
-pub tally-trials : (es : List Entry) → tallied none es .trials ≡ length es
-tally-trials es = omega (arith, agrees none es .trials)
-
--- a run has at most as many entries as it may take trials
-pub run-short : (repair : Repair) (s : List ℕ) (n k m : ℕ) (d : Damping) (t : State) → length (runWith repair s n k m d t .entries) ≤ m
-unfolding runWith after
-run-short repair s n k zero d t = omega arith
-run-short repair s n k (suc m) d t = go (trialWith repair s n k d t) (goingOf d (trialWith repair s n k d t .entry)) (run-short repair s n k m)
-  where
-    go : (o : Outcome) (g : Going) → ((d : Damping) (t : State) → length (runWith repair s n k m d t .entries) ≤ m)
-        → length (after (o .entry) (o .state) g (runWith repair s n k m) .entries) ≤ suc m
-    go o (On d') ih = let h = ih d' (o .state) in omega arith
-    go o (Over z) ih = omega arith
+agrees t [] = record { freed = omega arith; grounded = omega arith }
+agrees t (Freed i ∷ es) = let h = agrees (counted t (Freed i)) es in record { freed = omega arith; grounded = omega arith }
+agrees t (Grounded i ∷ es) = let h = agrees (counted t (Grounded i)) es in record { freed = omega arith; grounded = omega arith }
+agrees t (Singular i ∷ es) = let h = agrees (counted t (Singular i)) es in record { freed = omega arith; grounded = omega arith }
+agrees t (Wild p ∷ es) = let h = agrees (counted t (Wild p)) es in record { freed = omega arith; grounded = omega arith }
+agrees t (Stepped d ∷ es) = let h = agrees (counted t (Stepped d)) es in record { freed = omega arith; grounded = omega arith }
+agrees t (Converged ∷ es) = let h = agrees (counted t Converged) es in record { freed = omega arith; grounded = omega arith }
 
 -- ---- the whole solve
 
@@ -223,7 +206,7 @@ refused-counts number place l = record { freed = refl; grounded = refl }
 module _ (s : List ℕ) (l : Lent) where
   room : (net : Net) → Runs s l net → 4 * length (runIn s net .entries) ≤ length (l .entries)
   unfolding runIn startPoint
-  room net w = omega (arith, run-short repairOf s (net .nodes) (net .links) (trialsOf s) (startPoint s net .damping) (startPoint s net .state), runs-enough s l net w .entries)
+  room net w = omega (arith, run-length repairOf s (net .nodes) (net .links) (trialsOf s) (startPoint s net .damping) (startPoint s net .state), runs-enough s l net w .entries)
 
   -- what holds of the run's tally and bytes holds of the solve's
   in-solve : (net : Net) → Runs s l net → (P : ℕ → ℕ → ℕ → List ℕ → Type 0)
@@ -237,7 +220,7 @@ module _ (s : List ℕ) (l : Lent) where
   run-counts net w =
       let es = runIn s net .entries in
       let a = agrees none es in
-      let n : tallied none es .trials ≡ length es = omega (arith, a .trials) in
+      let n : tallied none es .trials ≡ length es = omega (arith, tallied-trials none es) in
       let f : tallied none es .freed ≡ having 86 70 es = omega (arith, a .freed) in
       let g : tallied none es .grounded ≡ having 71 78 es = omega (arith, a .grounded) in
       record {
@@ -255,7 +238,7 @@ module _ (s : List ℕ) (l : Lent) where
   module _ (net : Net) (w : Runs s l net) where
     -- The trial count is the number of entries.
     pub trials-are : solveOf s l .answer .trials ≡ length (runIn s net .entries)
-    trials-are = in-solve net w (λ trials freed grounded bytes. trials ≡ length (runIn s net .entries)) (omega (arith, agrees none (runIn s net .entries) .trials))
+    trials-are = in-solve net w (λ trials freed grounded bytes. trials ≡ length (runIn s net .entries)) (omega (arith, tallied-trials none (runIn s net .entries)))
 
     -- Every trial's entry stands in the record, in its place.
     pub shown : (i : ℕ) → i < length (runIn s net .entries) → Shown (solveOf s l .lent .entries) i (getD (runIn s net .entries) i Converged)

@@ -1,7 +1,7 @@
 -- One turn of the run of trials, over plain variables. Assumes nothing.
-use Prim.Native.Nat.{ℕ, suc, _+_, _-_, _≤_, _<_}
+use Prim.Native.Nat.{ℕ, zero, suc, _+_, _-_, _≤_, _<_}
 use mathlib.Core.Path.{_≡_, refl}
-use mathlib.Core.List.{List}
+use mathlib.Core.List.{List, [], _∷_}
 use mathlib.Core.Bool.{Bool}
 use native.Mathlib.Omega.{arith}
 use native.Mathlib.Numerals.{add-one}
@@ -11,7 +11,7 @@ use Rattle.repair.specs.declared.Damping.{Damping}
 use Rattle.repair.specs.declared.Entry.{Entry}
 use Rattle.repair.specs.declared.Entry.the-variants.{Freed, Grounded, Singular, Wild, Stepped, Converged}
 use Rattle.state.specs.State.{State}
-use Rattle.trial.specs.Trial.{Room, outcome, Repair, trialWith}
+use Rattle.trial.specs.Trial.{Room, Outcome, outcome, Repair, trialWith}
 use Rattle.entries.specs.Entries.{goingOf, markOf, putOf, written, counted, tallied}
 use Rattle.entries.specs.declared.Ended.{Ended}
 use Rattle.entries.specs.declared.Ended.the-variants.{Limit}
@@ -51,6 +51,23 @@ counts t (Singular i) = record { trials = refl; freed = omega arith; grounded = 
 counts t (Wild i) = record { trials = refl; freed = omega arith; grounded = omega arith }
 counts t (Stepped i) = record { trials = refl; freed = omega arith; grounded = omega arith }
 counts t Converged = record { trials = refl; freed = omega arith; grounded = omega arith }
+
+-- an entry a trial
+pub tallied-trials : (t : Tally) (es : List Entry) → tallied t es .trials ≡ t .trials + length es
+unfolding tallied
+tallied-trials t [] = omega arith
+tallied-trials t (e ∷ es) = omega (arith, tallied-trials (counted t e) es, counts t e .trials)
+
+-- a run has at most as many entries as it may take trials
+pub run-length : (repair : Repair) (s : List ℕ) (n k m : ℕ) (d : Damping) (t : State) → length (runWith repair s n k m d t .entries) ≤ m
+unfolding runWith after
+run-length repair s n k zero d t = omega arith
+run-length repair s n k (suc m) d t = go (trialWith repair s n k d t) (goingOf d (trialWith repair s n k d t .entry)) (run-length repair s n k m)
+  where
+    go : (o : Outcome) (g : Going) → ((d : Damping) (t : State) → length (runWith repair s n k m d t .entries) ≤ m)
+        → length (after (o .entry) (o .state) g (runWith repair s n k m) .entries) ≤ suc m
+    go o (On d') ih = let h = ih d' (o .state) in omega arith
+    go o (Over z) ih = omega arith
 
 -- a trial after which the run goes on, one that ends it, and the limit
 module _ (repair : Repair) (s : List ℕ) (n k m i : ℕ) (d : Damping) (tally : Tally) (r : List ℕ) (t : State) where
