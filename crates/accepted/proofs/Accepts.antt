@@ -13,7 +13,7 @@ use lib.Ieee.Scale.{finite}
 use lib.Count.{trailingZeros}
 use borrow.Author.Tests.{eqb-true, leb-true}
 use Rattle.float.specs.Sign.{absOf}
-use Rattle.float.specs.Bytes.{fromBytes}
+use Rattle.patterns.specs.Bytes.{fromBytes}
 use Rattle.records.specs.Offsets.{nodeOffset, linkOffset}
 use Rattle.sheet.specs.Layout.{hasOptions, nodesOf, linksOf, endOf}
 use Rattle.records.specs.Records.{byteAt, shortAt}

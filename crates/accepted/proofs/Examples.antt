@@ -6,8 +6,8 @@ use lib.Count.{trailingZeros}
 use lib.ListN.{replicate}
 use lib.Ieee.{lt, le, eq, ofBits, ofFields, odd}
 use Rattle.float.specs.Sign.{absOf}
-use Rattle.float.specs.Bytes.{littleEndian, fromBytes}
-use Rattle.records.specs.Codes.{linkCode}
+use Rattle.patterns.specs.Bytes.{littleEndian, fromBytes}
+use Rattle.codes.specs.Codes.{linkCode}
 use Rattle.sheet.specs.Layout.{readable, runOf, hasOptions, nodesOf, linksOf, endOf}
 use Rattle.records.specs.Records.{shortAt}
 use Rattle.fields.specs.Fields.{baseBounds, within, allWithin, optionsGood, nodeGood, linkCodes, linkNumbers, linkGood}

@@ -10,8 +10,8 @@ use lib.ListN.{length, getD, set}
 use lib.Ieee.{Float, nan}
 use Rattle.records.specs.Offsets.{nodeOffset, linkOffset}
 use Rattle.records.specs.Records.{shortAt, linkAt}
-use Rattle.records.specs.Codes.{statusOf}
-use Rattle.records.specs.declared.codes.Status.{Status}
+use Rattle.codes.specs.Codes.{statusOf}
+use Rattle.codes.specs.declared.Status.{Status}
 use Rattle.records.specs.declared.records.Link.{Link}
 use Rattle.sheet.specs.Ends.{EndsBelow, inService}
 use Rattle.constants.specs.Constants.{smallValue}
@@ -19,11 +19,11 @@ use Rattle.model.specs.Rules.{coefficientsOf}
 use Rattle.coefficient.specs.declared.Coefficients.{Coefficients}
 use Rattle.columns.specs.Columns.{cleared}
 use Rattle.nodes.specs.Fields.{enabled, fixedNode, elevationOf}
-use Rattle.nodes.specs.Numbering.{rowAt}
+use Rattle.numbering.specs.Numbering.{rowAt}
 use Rattle.scatter.specs.Scatter.{onDiagonal, offRow, linkMatrix, linkRow}
 use Rattle.assembly.specs.Assembly.{System, system, Given, Sized, Columns, coefficientsAt, linkIn, linkOf, linksOf, demandsOf, groundOf, groundedOf, assembleOf}
-use Rattle.nodes.specs.declared.numbering.Row.{Row}
-use Rattle.nodes.specs.declared.numbering.Row.the-variants.{Unknown, Fixed}
+use Rattle.numbering.specs.declared.Row.{Row}
+use Rattle.numbering.specs.declared.Row.the-variants.{Unknown, Fixed}
 
 -- ---- one link
 

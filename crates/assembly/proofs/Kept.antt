@@ -12,10 +12,10 @@ use Rattle.constants.specs.Constants.{smallValue}
 use Rattle.coefficient.specs.declared.Coefficients.{Coefficients}
 use Rattle.columns.specs.Columns.{cleared}
 use Rattle.nodes.specs.Fields.{enabled, fixedNode}
-use Rattle.nodes.specs.Numbering.{rowAt}
+use Rattle.numbering.specs.Numbering.{rowAt}
 use Rattle.scatter.specs.Scatter.{onDiagonal}
 use Rattle.assembly.specs.Assembly.{System, system, Columns, coefficientsAt, linkIn, linkOf, linksOf, demandsOf, groundOf, groundedOf, assembleOf}
-use Rattle.nodes.specs.declared.numbering.Row.{Row}
+use Rattle.numbering.specs.declared.Row.{Row}
 use Rattle.columns.proofs.Laws.{cleared-long}
 use Rattle.rows.proofs.Lengths.{off-row-long, on-diagonal-long}
 use Rattle.scatter.proofs.Lengths.{matrix-long, row-long, either-long}

@@ -7,7 +7,7 @@ use lib.ListN.{length, getD, set}
 use lib.Ieee.{Float, nan}
 use Rattle.records.specs.Offsets.{linkOffset}
 use Rattle.records.specs.Records.{linkAt}
-use Rattle.records.specs.Codes.{statusOf}
+use Rattle.codes.specs.Codes.{statusOf}
 use Rattle.records.specs.declared.records.Link.{Link}
 use Rattle.sheet.specs.Ends.{EndsBelow}
 use Rattle.constants.specs.Constants.{smallValue}
@@ -15,9 +15,9 @@ use Rattle.model.specs.Rules.{coefficientsOf}
 use Rattle.coefficient.specs.declared.Coefficients.{Coefficients}
 use Rattle.columns.specs.Columns.{cleared}
 use Rattle.nodes.specs.Fields.{enabled, fixedNode, elevationOf}
-use Rattle.nodes.specs.Numbering.{rowAt, RowsRight}
+use Rattle.numbering.specs.Numbering.{rowAt, RowsRight}
 use Rattle.scatter.specs.Scatter.{onDiagonal, offRow, linkMatrix, linkRow}
-use Rattle.nodes.specs.declared.numbering.Row.{Row}
+use Rattle.numbering.specs.declared.Row.{Row}
 
 -- the matrix, the right side, and the columns of the links' g and y
 pub record System : Type 0 where

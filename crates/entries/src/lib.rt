@@ -4,7 +4,7 @@ ghost use mathlib.Core.Path.{_≡_};
 ghost use Prim.Native.Nat.{_+_, _*_, _<_, _≤_};
 ghost use lib.ListN.{length};
 ghost use Rattle.entries.specs.Entries.{dampingStart, goingOf, markOf, putOf, counted};
-use nodes::NodeIndex;
+use numbering::NodeIndex;
 use repair::Damping;
 use repair::Entry;
 

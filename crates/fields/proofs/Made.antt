@@ -6,7 +6,7 @@ use Prim.Native.Nat.{ℕ, _+_, _*_}
 use native.Mathlib.Numerals.{add-one}
 use lib.Dec.{eqb, leb, ltb}
 use lib.Ieee.{Float, lt, le}
-use Rattle.float.specs.Bytes.{fromBytes}
+use Rattle.patterns.specs.Bytes.{fromBytes}
 use Rattle.records.specs.Records.{byteAt, shortAt}
 use Rattle.fields.specs.Fields.{null, within, allWithin, optionsGood, nodeGood, linkCodes, linkNumbers, linkGood}
 use Rattle.fields.specs.declared.fields.Bounds.{Bounds}

@@ -5,7 +5,7 @@ use mathlib.Core.List.{List}
 use lib.Dec.{eqb, leb, ltb}
 use lib.Ieee.{Float, binary64, ofBits, lt, le}
 use Rattle.float.specs.Sign.{absOf}
-use Rattle.float.specs.Bytes.{fromBytes}
+use Rattle.patterns.specs.Bytes.{fromBytes}
 use Rattle.records.specs.Records.{byteAt, shortAt}
 use Rattle.fields.specs.declared.fields.Bounds.{Bounds}
 

@@ -4,7 +4,7 @@ ghost use Prim.Native.Nat.{_+_, _*_, _≤_, _<_};
 ghost use lib.ListN.{length};
 ghost use Rattle.fields.specs.Fields.{baseBounds, within, allWithin, optionsGood, nodeGood, linkCodes, linkNumbers, linkGood};
 use float::abs;
-use float::from_bytes;
+use patterns::from_bytes;
 use records::short;
 
 // What a sheet may hold: at most so many nodes and links, trials, the greatest code of a unit, the

@@ -1,15 +1,13 @@
 -- Worked examples: the definitions compute. Assumes nothing.
 use mathlib.Core.Path.{_≡_, refl}
 use mathlib.Core.Bool.{true, false}
-use mathlib.Core.List.{[], _∷_}
 use Prim.Native.Nat.{ℕ}
 use lib.Count.{trailingZeros}
-use lib.IntN.{pos, negsuc}
+use lib.IntN.{pos}
 use lib.Ieee.{Float, nan, inf, fin, binary64, lt, le, eq, mul, round, units, odd, size, span, climb, ofBits, ofFields, isNan}
 use Rattle.float.specs.Sign.{absOf, signumOf}
 use Rattle.float.specs.Order.{largerOf, smallerOf, clampOf, wildOf}
 use Rattle.float.specs.WholePower.{least, squared, powerIn, wholePower}
-use Rattle.float.specs.Bytes.{littleEndian, fromBytes}
 
 -- an f64 by its pattern
 abbrev bits : ℕ → Float
@@ -34,8 +32,3 @@ limits = (refl, refl, refl)
 powers : (wholePower (bits 0x4008_0000_0000_0000) 0 ≡ fin false 1 (pos 0)) × (wholePower (bits 0x4008_0000_0000_0000) 1 ≡ fin false 3 (pos 0)) × (wholePower (bits 0x4008_0000_0000_0000) 4 ≡ fin false 81 (pos 0)) × (wholePower (bits 0x4008_0000_0000_0000) 5 ≡ fin false 243 (pos 0))
 unfolding wholePower powerIn least squared mul round units odd size span climb ofBits ofFields trailingZeros
 powers = (refl, refl, refl, refl)
-
--- the last eight of nine bytes are those of 1.5; a pattern of a NaN is NaN
-floats : (fromBytes (7 ∷ 0 ∷ 0 ∷ 0 ∷ 0 ∷ 0 ∷ 0 ∷ 0xf8 ∷ 0x3f ∷ []) 1 ≡ fin false 3 (negsuc 0)) × (fromBytes (1 ∷ 0 ∷ 0 ∷ 0 ∷ 0 ∷ 0 ∷ 0xf0 ∷ 0xff ∷ []) 0 ≡ nan)
-unfolding fromBytes littleEndian ofBits ofFields odd trailingZeros
-floats = (refl, refl)

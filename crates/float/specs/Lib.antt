@@ -1,4 +1,3 @@
 pub mod Sign
 pub mod Order
 pub mod WholePower
-pub mod Bytes

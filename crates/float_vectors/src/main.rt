@@ -5,7 +5,7 @@ const OUT: i32 = 1;
 
 fn hex(x: f64) {
     io::write_all(OUT, b" ");
-    io::print_hex(OUT, float::pattern(x), 16);
+    io::print_hex(OUT, patterns::pattern(x), 16);
 }
 
 fn one(name: &[u8], x: f64, r: f64) {
@@ -26,9 +26,9 @@ fn two(name: &[u8], x: f64, y: f64, r: f64) {
 fn answer(record: [u8; 25]) {
     let kind = record[0];
     let n = record[9];
-    let x = float::from_bytes(&record, 1);
-    let y = float::from_bytes(&record, 9);
-    let z = float::from_bytes(&record, 17);
+    let x = patterns::from_bytes(&record, 1);
+    let y = patterns::from_bytes(&record, 9);
+    let z = patterns::from_bytes(&record, 17);
     match kind {
         0 => one(b"root", x, roots::root(x)),
         1 => one(b"abs", x, float::abs(x)),

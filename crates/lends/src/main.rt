@@ -47,7 +47,7 @@ fn show_floats(a: &[f64]) {
     let mut count: usize = 0;
     let mut i: usize = 0;
     while i < a.len() {
-        let same = float::pattern(a[i]) == float::pattern(FLOAT);
+        let same = patterns::pattern(a[i]) == patterns::pattern(FLOAT);
         count += one(!same);
         first += one(same & (count == 0));
         i += 1;
@@ -177,14 +177,14 @@ fn step() -> bool {
         return false;
     }
     let l = Lengths {
-        heads: float::two_bytes(&head, 0) as usize,
-        demands: float::two_bytes(&head, 2) as usize,
-        flows: float::two_bytes(&head, 4) as usize,
-        statuses: float::two_bytes(&head, 6) as usize,
-        entries: float::two_bytes(&head, 8) as usize,
-        scratch: float::two_bytes(&head, 10) as usize,
+        heads: patterns::two_bytes(&head, 0) as usize,
+        demands: patterns::two_bytes(&head, 2) as usize,
+        flows: patterns::two_bytes(&head, 4) as usize,
+        statuses: patterns::two_bytes(&head, 6) as usize,
+        entries: patterns::two_bytes(&head, 8) as usize,
+        scratch: patterns::two_bytes(&head, 10) as usize,
     };
-    let size = float::two_bytes(&head, 12) as usize;
+    let size = patterns::two_bytes(&head, 12) as usize;
     let mut buffer = io::large_buffer();
     sheet_in(&mut buffer, size, l)
 }

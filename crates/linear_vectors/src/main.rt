@@ -11,12 +11,12 @@ const OUT: i32 = 1;
 fn read() -> f64 {
     let mut bytes = [0u8; 8];
     io::read_full(0, &mut bytes);
-    float::from_bytes(&bytes, 0)
+    patterns::from_bytes(&bytes, 0)
 }
 
 fn write(x: f64) {
     io::write_all(OUT, b" ");
-    io::print_hex(OUT, float::pattern(x), 16);
+    io::print_hex(OUT, patterns::pattern(x), 16);
 }
 
 fn read_part(a: &mut [f64], from: usize, to: usize)

@@ -15,8 +15,8 @@ use Rattle.refusals.specs.declared.refusals.Refusal.{Refusal}
 use Rattle.answers.specs.Answers.{Solved}
 use Rattle.answers.specs.declared.Answer.{Answer}
 use Rattle.solver.specs.Solve.{solveOf}
-use Rattle.text.specs.Buffer.{placed, Put}
-use Rattle.text.proofs.Laws.{then}
+use Rattle.words.specs.Buffer.{placed, Put}
+use Rattle.words.proofs.Laws.{then}
 use Rattle.listing_text.specs.Listing.{headLines, resultLines, resultsFor, linesOf, blank, listingOf}
 
 module _ (reading : Reading) (a : Answer) (h d q : List Float) (codes entries : List ℕ) {old mid : List ℕ} {p : ℕ} (head : Put old 0 (headLines a entries) mid p) where

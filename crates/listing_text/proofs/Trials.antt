@@ -18,7 +18,8 @@ use Rattle.entries.specs.declared.Ended.the-variants.{Balanced, Failed, Strayed
 use Rattle.entries.specs.declared.Tally.{Tally}
 use Rattle.runs.specs.Run.{runWith, finish}
 use Rattle.runs.proofs.Laws.{tallied-trials, run-length}
-use Rattle.answers.specs.Answers.{Lent, shortOf, refusedOf, failedOf, unsolved, delivered, told}
+use Rattle.answers.specs.Answers.{Lent, shortOf, refusedOf, failedOf}
+use Rattle.conclusion.specs.Conclusion.{unsolved, delivered, told}
 use Rattle.solver.specs.Solve.{trialsOf, startOf, runOf, solvedWith, afterShort, afterRead, solveWith}
 use Rattle.solver.proofs.Laws.{few-trials}
 

@@ -13,7 +13,8 @@ use Rattle.columns.specs.Columns.{zeros}
 use Rattle.answers.specs.Answers.{Lent, lent}
 use Rattle.answers.specs.declared.Answer.{Answer}
 use Rattle.solver.specs.Solve.{solveOf}
-use Rattle.text.specs.Lines.{answerLine, recordLines, nodeLines, linkLines, balanceLine}
+use Rattle.text.specs.Lines.{answerLine, recordLines}
+use Rattle.results.specs.Lines.{nodeLines, linkLines, balanceLine}
 
 -- A, then T for each entry of the record
 unfoldable pub headLines : Answer → List ℕ → List ℕ

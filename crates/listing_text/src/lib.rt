@@ -3,7 +3,7 @@ ghost use mathlib.Core.Path.{_≡_};
 ghost use Prim.Native.Nat.{_*_, _≤_};
 ghost use lib.ListN.{length};
 ghost use Rattle.sheet.specs.Read.{readOf};
-ghost use Rattle.text.specs.Buffer.{placed, Put};
+ghost use Rattle.words.specs.Buffer.{placed, Put};
 ghost use Rattle.listing_text.specs.Listing.{headLines, resultLines, linesOf, listingOf};
 use answers::Answer;
 use sheet::Net;
@@ -33,9 +33,9 @@ fn result_lines(
     ensures { λ r. ⌜ Put (now (out .entry)) at (resultLines net a (now (heads .entry)) (now (demands .entry)) (now (flows .entry)) (now (statuses .entry))) (now (out .exit)) r ⌝ }
     ensures { λ r. ⌜ r ≤ 50432 ⌝ }
 {
-    let mut p = text::node_lines(heads, demands, net.nodes, out, at);
-    p = text::link_lines(flows, statuses, net.links, out, p);
-    text::balance_line(a.demand, a.supply, a.error, out, p)
+    let mut p = results::node_lines(heads, demands, net.nodes, out, at);
+    p = results::link_lines(flows, statuses, net.links, out, p);
+    results::balance_line(a.demand, a.supply, a.error, out, p)
 }
 
 // All lines of an answer. The sheet is read again for its counts of nodes and links.

@@ -3,9 +3,9 @@ use mathlib.Core.Path.{_≡_}
 use mathlib.Core.List.{[], _∷_}
 use types.Run.{OneOf}
 use lib.Ieee.{Float}
-use Rattle.records.specs.Codes.{linkKindOf}
-use Rattle.records.specs.declared.codes.Status.{Status}
-use Rattle.records.specs.declared.codes.LinkKind.{LinkKind}
+use Rattle.codes.specs.Codes.{linkKindOf}
+use Rattle.codes.specs.declared.Status.{Status}
+use Rattle.codes.specs.declared.LinkKind.{LinkKind}
 use Rattle.records.specs.declared.records.Link.{Link}
 use Rattle.coefficient.specs.declared.Coefficients.{Coefficients}
 use Rattle.pipes.specs.Pipe.{pipeOf}

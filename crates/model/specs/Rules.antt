@@ -1,8 +1,8 @@
 -- link.rs: one decision over the link's kind. Definitions only.
 use lib.Ieee.{Float}
-use Rattle.records.specs.declared.codes.LinkKind.{LinkKind}
-use Rattle.records.specs.declared.codes.LinkKind.the-variants.{Pipe, Prv, Psv, Pbv, Fcv, Tcv, Pcv}
-use Rattle.records.specs.declared.codes.Status.{Status}
+use Rattle.codes.specs.declared.LinkKind.{LinkKind}
+use Rattle.codes.specs.declared.LinkKind.the-variants.{Pipe, Prv, Psv, Pbv, Fcv, Tcv, Pcv}
+use Rattle.codes.specs.declared.Status.{Status}
 use Rattle.records.specs.declared.records.Link.{Link}
 use Rattle.pipes.specs.Pipe.{pipeOf}
 use Rattle.valves.specs.Valve.{valveOf}

@@ -21,15 +21,15 @@ struct Case {
 
 fn case_of(record: [u8; 76]) -> Case {
     let x = [
-        float::from_bytes(&record, 4),
-        float::from_bytes(&record, 12),
-        float::from_bytes(&record, 20),
-        float::from_bytes(&record, 28),
-        float::from_bytes(&record, 36),
-        float::from_bytes(&record, 44),
-        float::from_bytes(&record, 52),
-        float::from_bytes(&record, 60),
-        float::from_bytes(&record, 68),
+        patterns::from_bytes(&record, 4),
+        patterns::from_bytes(&record, 12),
+        patterns::from_bytes(&record, 20),
+        patterns::from_bytes(&record, 28),
+        patterns::from_bytes(&record, 36),
+        patterns::from_bytes(&record, 44),
+        patterns::from_bytes(&record, 52),
+        patterns::from_bytes(&record, 60),
+        patterns::from_bytes(&record, 68),
     ];
     Case {
         what: record[0],
@@ -41,7 +41,7 @@ fn case_of(record: [u8; 76]) -> Case {
 }
 
 fn hex(x: f64) {
-    io::print_hex(OUT, float::pattern(x), 16);
+    io::print_hex(OUT, patterns::pattern(x), 16);
 }
 
 fn space() {

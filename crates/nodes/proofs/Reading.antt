@@ -6,7 +6,7 @@ use Prim.Native.Nat.{ℕ, _+_}
 use lib.Dec.{eqb}
 use lib.ListN.{getD}
 use lib.Ieee.{Float}
-use Rattle.float.specs.Bytes.{fromBytes}
+use Rattle.patterns.specs.Bytes.{fromBytes}
 use Rattle.records.specs.Offsets.{nodeOffset}
 use Rattle.nodes.specs.Fields.{enabled, fixedNode, elevationOf}
 

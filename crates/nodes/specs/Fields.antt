@@ -4,7 +4,7 @@ use mathlib.Core.Bool.{Bool, not}
 use mathlib.Core.List.{List}
 use lib.Dec.{eqb}
 use lib.Ieee.{Float}
-use Rattle.float.specs.Bytes.{fromBytes}
+use Rattle.patterns.specs.Bytes.{fromBytes}
 use Rattle.records.specs.Offsets.{nodeOffset}
 use Rattle.records.specs.Records.{byteAt}
 

@@ -1,3 +1,1 @@
--- The specs of `nodes`.
 pub mod Fields
-pub mod Numbering

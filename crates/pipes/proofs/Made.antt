@@ -7,8 +7,8 @@ use lib.Ieee.{Float, lt}
 use Rattle.power.specs.Power.{powerOf}
 use Rattle.float.specs.Sign.{absOf, signumOf}
 use Rattle.roots.specs.Root.{rootOf}
-use Rattle.records.specs.Codes.{statusOf}
-use Rattle.records.specs.declared.codes.Status.{Status}
+use Rattle.codes.specs.Codes.{statusOf}
+use Rattle.codes.specs.declared.Status.{Status}
 use Rattle.constants.specs.Arithmetic.{plus, minus, times, over}
 use Rattle.constants.specs.Constants.{half, one, bigValue, qZero, cvHeadEpsilon, rqTol, hExponent}
 use Rattle.coefficient.specs.Link.{simpleOf, highResistance}

@@ -5,8 +5,8 @@ use Rattle.float.specs.Sign.{absOf, signumOf}
 use Rattle.roots.specs.Root.{rootOf}
 use Rattle.float.specs.WholePower.{wholePower}
 use Rattle.power.specs.Power.{powerOf}
-use Rattle.records.specs.declared.codes.Status.{Status}
-use Rattle.records.specs.declared.codes.Status.the-variants.{Closed, Open, Active, TempClosed, FixedClosed, FixedOpen, XPressure, Xhead}
+use Rattle.codes.specs.declared.Status.{Status}
+use Rattle.codes.specs.declared.Status.the-variants.{Closed, Open, Active, TempClosed, FixedClosed, FixedOpen, XPressure, Xhead}
 use Rattle.constants.specs.Arithmetic.{plus, minus, times, over}
 use Rattle.constants.specs.Constants.{zero, half, one, two, bigValue, qZero, cvHeadEpsilon, rqTol, hExponent}
 use Rattle.coefficient.specs.Link.{simpleOf, highResistance}

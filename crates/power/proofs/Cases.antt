@@ -6,7 +6,7 @@ use native.Mathlib.Omega.{arith}
 use lib.Ieee.{Float, nan, inf, binary64, ne, toBits, ofBits}
 use borrow.Author.Tests.{lt-ltb, le-ltb, le-leb, lt-leb, eq-eqb, ne-eqb}
 use Rattle.power.specs.Power.{powerOf, powerBits, between}
-use Rattle.float.proofs.Nans.{not-nan}
+use Rattle.patterns.proofs.Nans.{not-nan}
 
 pub at-pattern : (x : Float) → ne x x ≡ false → powerOf x ≡ powerBits (toBits binary64 x)
 unfolding powerOf

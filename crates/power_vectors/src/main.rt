@@ -14,10 +14,10 @@ fn step(a: &[u64; 1025], b: &[u64; 128]) -> bool
     if n < 8 {
         return false;
     }
-    let x = float::from_bytes(&record, 0);
-    io::print_hex(OUT, float::pattern(x), 16);
+    let x = patterns::from_bytes(&record, 0);
+    io::print_hex(OUT, patterns::pattern(x), 16);
     io::write_all(OUT, b" ");
-    io::print_hex(OUT, float::pattern(power::power(x, a, b)), 16);
+    io::print_hex(OUT, patterns::pattern(power::power(x, a, b)), 16);
     io::write_all(OUT, b"\n");
     true
 }

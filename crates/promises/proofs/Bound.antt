@@ -18,8 +18,8 @@ use Rattle.linear.specs.Factorization.{factorOf}
 use Rattle.linear.specs.declared.factorization.Factored.{Factored}
 use Rattle.linear.specs.declared.factorization.Factored.the-variants.{Done, Stopped}
 use Rattle.linear.proofs.Laws.{stops-below}
-use Rattle.nodes.specs.Numbering.{before, nodeNumbered}
-use Rattle.nodes.proofs.Rows.{node-of}
+use Rattle.numbering.specs.Numbering.{before, nodeNumbered}
+use Rattle.numbering.proofs.Rows.{node-of}
 use Rattle.excess.specs.Excess.{regulator}
 use Rattle.state.specs.State.{State, solvedHeads}
 use Rattle.columns.specs.Columns.{zeros}

@@ -24,7 +24,8 @@ use Rattle.entries.specs.Entries.{none, written, tallied}
 use Rattle.entries.specs.declared.Ended.{Ended}
 use Rattle.entries.specs.declared.Ended.the-variants.{Balanced, Failed, Strayed, Limit}
 use Rattle.entries.specs.declared.Tally.{Tally}
-use Rattle.answers.specs.Answers.{Lent, failedOf, emptied, refusedOf, unsolved, delivered, told}
+use Rattle.answers.specs.Answers.{Lent, failedOf, refusedOf}
+use Rattle.conclusion.specs.Conclusion.{emptied, unsolved, delivered, told}
 use Rattle.solver.specs.Solve.{trialsOf, solveOf}
 use Rattle.promises.specs.Trials.{startPoint, runIn, pointIn}
 use Rattle.promises.specs.Solves.{Runs}

@@ -9,7 +9,7 @@ use lib.ListN.{length, getD}
 use lib.Dec.{leb}
 use lib.Ieee.{lt, le}
 use borrow.Author.Tests.{leb-true}
-use Rattle.float.specs.Bytes.{fromBytes}
+use Rattle.patterns.specs.Bytes.{fromBytes}
 use Rattle.records.specs.Records.{byteAt, shortAt, optionsOf}
 use Rattle.fields.specs.Fields.{baseBounds, null, allWithin, optionsGood}
 use Rattle.fields.specs.declared.fields.Bounds.{Bounds}
@@ -24,7 +24,7 @@ use Rattle.sheet.specs.declared.reading.Reading.{Reading}
 use Rattle.sheet.specs.declared.reading.Reading.the-variants.{Good, Refused}
 use Rattle.accepted.specs.Accepted.{causeOf, numberIn}
 use Rattle.accepted.proofs.Accepts.{cause, accepts}
-use Rattle.nodes.specs.declared.numbering.NodeIndex.{NodeIndex}
+use Rattle.numbering.specs.declared.NodeIndex.{NodeIndex}
 use Rattle.state.specs.State.{State}
 use Rattle.repair.specs.declared.Damping.{Damping}
 use Rattle.repair.specs.declared.Entry.{Entry}
@@ -37,7 +37,8 @@ use Rattle.entries.specs.declared.Going.{Going}
 use Rattle.entries.specs.declared.Going.the-variants.{On, Over}
 use Rattle.entries.specs.declared.Tally.{Tally}
 use Rattle.runs.specs.Run.{after, runWith}
-use Rattle.answers.specs.Answers.{Lent, Solved, failedOf, refusedOf, unsolved, delivered, told}
+use Rattle.answers.specs.Answers.{Lent, Solved, failedOf, refusedOf}
+use Rattle.conclusion.specs.Conclusion.{unsolved, delivered, told}
 use Rattle.solver.specs.Solve.{trialsOf, afterShort, afterRead, solveWith, solveOf}
 use Rattle.promises.specs.Repairs.{Refuses}
 use Rattle.promises.specs.Trials.{Point, point, trialAt, runAt, startPoint, runIn}

@@ -14,13 +14,13 @@ use Rattle.damping.specs.Damping.{convergedOf, relativeChange}
 use Rattle.sheet.specs.declared.layout.Found.{Found}
 use Rattle.sheet.specs.declared.layout.Found.the-variants.{At, Nothing}
 use Rattle.sheet.specs.declared.reading.Net.{Net}
-use Rattle.state.specs.Wild.{wildPlace}
-use Rattle.state.proofs.Kept.{wild-below}
+use Rattle.wild.specs.Wild.{wildPlace}
+use Rattle.wild.proofs.Wilds.{wild-below}
 use Rattle.update.specs.Update.{step, updateOf}
 use Rattle.update.specs.declared.Stats.{Stats}
 use Rattle.state.specs.State.{State, solvedHeads}
 use Rattle.repair.specs.declared.LinkIndex.{LinkIndex}
-use Rattle.nodes.specs.declared.numbering.NodeIndex.{NodeIndex}
+use Rattle.numbering.specs.declared.NodeIndex.{NodeIndex}
 use Rattle.repair.specs.declared.Damping.{Damping}
 use Rattle.repair.specs.declared.Entry.{Entry}
 use Rattle.repair.specs.declared.Entry.the-variants.{Freed, Grounded, Singular, Wild, Stepped, Converged}
@@ -32,7 +32,8 @@ use Rattle.entries.specs.declared.Mark.{Mark}
 use Rattle.entries.specs.declared.Tally.{Tally}
 use Rattle.entries.proofs.Laws.{put-long}
 use Rattle.runs.proofs.Laws.{tallied-trials, run-length}
-use Rattle.answers.specs.Answers.{Lent, failedOf, refusedOf, unsolved, delivered, told}
+use Rattle.answers.specs.Answers.{Lent, failedOf, refusedOf}
+use Rattle.conclusion.specs.Conclusion.{unsolved, delivered, told}
 use Rattle.solver.specs.Solve.{trialsOf, solveOf}
 use Rattle.solver.proofs.Laws.{network-of}
 use Rattle.promises.specs.Count.{count}

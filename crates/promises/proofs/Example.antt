@@ -4,10 +4,10 @@ use mathlib.Core.List.{List}
 use mathlib.Core.Path.{_≡_, refl, ap, _∙_}
 use lib.Count.{leadingZeros, trailingZeros}
 use lib.Ieee.{lt, le, eq, neg, add, sub, sum, mul, div, round, units, odd, size, span, climb, ofBits, ofFields, toBits, isNan}
-use Rattle.float.specs.Bytes.{littleEndian, fromBytes}
+use Rattle.patterns.specs.Bytes.{littleEndian, fromBytes}
 use Rattle.float.specs.Order.{wildOf}
 use Rattle.records.specs.Records.{shortAt, optionsOf, nodeAt, linkAt}
-use Rattle.records.specs.Codes.{statusOf, linkKindOf}
+use Rattle.codes.specs.Codes.{statusOf, linkKindOf}
 use Rattle.ends.specs.Ends.{inService, endsGood}
 use Rattle.roots.specs.Root.{wholeRootIn, wholeRoot, moved, exponent, scaled, rootBits, rootOf}
 use Rattle.linear.specs.Matrix.{fill}
@@ -19,13 +19,13 @@ use Rattle.damping.specs.Units as unit
 use Rattle.damping.specs.Damping.{dampedOf, relativeChange, flowLimit, convergedOf}
 use Rattle.columns.specs.Columns.{cleared, addTo, takeFrom, zeros}
 use Rattle.nodes.specs.Fields.{enabled, fixedNode}
-use Rattle.nodes.specs.Numbering.{before, rowAt, nodeNumbered}
+use Rattle.numbering.specs.Numbering.{before, rowAt, nodeNumbered}
 use Rattle.excess.specs.Excess.{regulator, present, lessDemands, withFlows, excessOf}
 use Rattle.excess.specs.Excess as Excess
 use Rattle.rows.specs.Rows.{offRow, onDiagonal}
 use Rattle.assembly.specs.Assembly.{linkOf, linksOf, demandsOf, groundOf, groundedOf}
 use Rattle.state.specs.State.{headsFrom, demandsFrom, flowsFrom, codesFrom, withHead, solvedHeads}
-use Rattle.state.specs.Wild.{wildFrom, firstWild, wildPlace}
+use Rattle.wild.specs.Wild.{wildFrom, firstWild, wildPlace}
 use Rattle.update.specs.Update.{linkUpdate, linkUpdates, updateOf}
 use Rattle.tanks.specs.Tanks.{tankAt, tankUpdates, tankLinksOf}
 use Rattle.repair.specs.Repair.{touches, regulatesAt, regulatorFrom, regulatorAt, ground, free, repairAt}
@@ -46,10 +46,13 @@ use Rattle.balance.specs.Balance.{demandOf, suppliedBy, supplyOf, balanceOf, se
 use Rattle.entries.specs.Entries.{markOf, putOf, written, tallied}
 use Rattle.entries.specs.Entries as entry
 use Rattle.runs.specs.Run.{finish}
-use Rattle.answers.specs.Answers.{Solved, shortOf, delivered, told}
+use Rattle.answers.specs.Answers.{Solved, shortOf}
+use Rattle.conclusion.specs.Conclusion.{delivered, told}
 use Rattle.solver.specs.Solve.{trialsOf, startOf, solveOf}
-use Rattle.text.specs.Digits.{decimalIn, decimalOf, hexDigit, hexIn, hexOf}
-use Rattle.text.specs.Lines.{numberWord, floatWord, answerLine, recordLine, recordLines, nodeLine, nodeLines, linkLine, linkLines, balanceLine}
+use Rattle.words.specs.Digits.{decimalIn, decimalOf, hexDigit, hexIn, hexOf}
+use Rattle.words.specs.Words.{numberWord, floatWord}
+use Rattle.text.specs.Lines.{answerLine, recordLine, recordLines}
+use Rattle.results.specs.Lines.{nodeLine, nodeLines, linkLine, linkLines, balanceLine}
 use Rattle.listing_text.specs.Listing.{headLines, resultLines, resultsFor, linesOf, blank, listingOf}
 use Rattle.promises.specs.Example.{sheet, listing, freedSheet, freedListing}
 use Rattle.promises.proofs.Quick.{quickSystem, quickTrial, quickRun, quickSolve, quick-solve}

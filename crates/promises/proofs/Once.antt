@@ -10,7 +10,7 @@ use lib.Seq.{getD-set-same, getD-set-other}
 use Rattle.sheet.specs.Read.{readOf}
 use Rattle.sheet.specs.declared.reading.Net.{Net}
 use Rattle.sheet.specs.declared.reading.Reading.the-variants.{Good}
-use Rattle.nodes.specs.declared.numbering.NodeIndex.{NodeIndex}
+use Rattle.numbering.specs.declared.NodeIndex.{NodeIndex}
 use Rattle.state.specs.State.{State}
 use Rattle.repair.specs.declared.Entry.the-variants.{Grounded, Converged}
 use Rattle.trial.specs.Trial.{Room, Outcome, stepOf}

@@ -5,7 +5,7 @@ use mathlib.Core.List.{List, [], _∷_}
 use Rattle.linear.specs.Factorization.{factorOf}
 use Rattle.columns.specs.Columns.{cleared, zeros}
 use Rattle.columns.proofs.Laws.{cleared-zeros, zeros-long}
-use Rattle.nodes.specs.Numbering.{before}
+use Rattle.numbering.specs.Numbering.{before}
 use Rattle.excess.specs.Excess.{excessOf}
 use Rattle.assembly.specs.Assembly.{System, system, columns, linksOf, demandsOf, groundedOf, assembleOf}
 use Rattle.state.specs.State.{State}
@@ -22,7 +22,8 @@ use Rattle.sheet.specs.Read.{readOf}
 use Rattle.sheet.specs.declared.layout.Found.the-variants.{Nothing}
 use Rattle.sheet.specs.declared.reading.Reading.the-variants.{Good}
 use Rattle.sheet.specs.declared.reading.Net.{Net}
-use Rattle.answers.specs.Answers.{Lent, Solved, shortOf, told}
+use Rattle.answers.specs.Answers.{Lent, Solved, shortOf}
+use Rattle.conclusion.specs.Conclusion.{told}
 use Rattle.solver.specs.Solve.{trialsOf, startOf, runOf, solvedWith, afterShort, afterRead, solveWith}
 
 unfoldable pub quickSystem : List ℕ → ℕ → ℕ → State → System

@@ -19,13 +19,13 @@ use Rattle.linear.specs.Factorization.{factorOf}
 use Rattle.linear.specs.declared.factorization.Factored.{Factored}
 use Rattle.linear.specs.declared.factorization.Factored.the-variants.{Done, Stopped}
 use Rattle.substitution.specs.Substitution.{solved}
-use Rattle.nodes.specs.Numbering.{before, nodeNumbered}
-use Rattle.nodes.specs.declared.numbering.NodeIndex.{NodeIndex}
+use Rattle.numbering.specs.Numbering.{before, nodeNumbered}
+use Rattle.numbering.specs.declared.NodeIndex.{NodeIndex}
 use Rattle.damping.specs.Damping.{convergedOf, relativeChange}
 use Rattle.excess.specs.Excess.{regulator}
 use Rattle.assembly.specs.Assembly.{System}
 use Rattle.state.specs.State.{State, solvedHeads}
-use Rattle.state.specs.Wild.{wildPlace}
+use Rattle.wild.specs.Wild.{wildPlace}
 use Rattle.update.specs.Update.{step, updateOf}
 use Rattle.update.specs.declared.Stats.{Stats}
 use Rattle.repair.specs.Repair.{touches, regulatesAt, regulatorFrom, regulatorAt}

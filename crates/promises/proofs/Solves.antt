@@ -13,7 +13,8 @@ use Rattle.sheet.specs.declared.reading.Reading.the-variants.{Good, Refused}
 use Rattle.trial.specs.Trial.{Repair, repairOf}
 use Rattle.entries.specs.Entries.{none, written, tallied}
 use Rattle.runs.specs.Run.{finish}
-use Rattle.answers.specs.Answers.{Lent, Solved, Enough, refusedOf, told}
+use Rattle.answers.specs.Answers.{Lent, Solved, Enough, refusedOf}
+use Rattle.conclusion.specs.Conclusion.{told}
 use Rattle.answers.proofs.Laws.{enough}
 use Rattle.solver.specs.Solve.{trialsOf, runOf, solvedWith, afterShort, afterRead, solveWith}
 use Rattle.promises.specs.Trials.{startPoint, runIn}

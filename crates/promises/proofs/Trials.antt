@@ -4,9 +4,11 @@ use mathlib.Core.Path.{_≡_, refl}
 use mathlib.Core.List.{List}
 use mathlib.Core.Bool.{Bool, true, false, cond}
 use native.Mathlib.Omega.{arith}
+use lib.Dec.{T}
 use lib.ListN.{length, getD}
 use lib.Ieee.{Float, le, lt, eq, ofBits, ofFields, odd}
 use lib.Count.{trailingZeros}
+use Rattle.constants.specs.Constants as constant
 use Rattle.records.specs.Records.{optionsOf}
 use Rattle.records.specs.declared.records.Options.{Options}
 use Rattle.sheet.specs.declared.layout.Found.{Found}
@@ -15,7 +17,7 @@ use Rattle.sheet.specs.declared.reading.Net.{Net}
 use Rattle.damping.specs.Damping.{dampedOf, relativeChange, convergedOf, InRange}
 use Rattle.damping.proofs.Bounded.{in-range}
 use Rattle.state.specs.State.{State, solvedHeads}
-use Rattle.state.specs.Wild.{wildPlace}
+use Rattle.wild.specs.Wild.{wildPlace}
 use Rattle.update.specs.Update.{step, updateOf}
 use Rattle.update.specs.declared.Stats.{Stats}
 use Rattle.repair.specs.declared.Damping.{Damping}
@@ -27,7 +29,7 @@ use Rattle.entries.specs.declared.Going.{Going}
 use Rattle.entries.specs.declared.Going.the-variants.{On, Over}
 use Rattle.runs.specs.Run.{after, runWith}
 use Rattle.solver.specs.Solve.{trialsOf}
-use Rattle.promises.specs.Trials.{Point, point, trialAt, runAt, dampingAfter, next, afterTrials, startPoint, runIn, pointIn, Damped}
+use Rattle.promises.specs.Trials.{Point, point, trialAt, runAt, dampingAfter, next, afterTrials, startPoint, runIn, pointIn}
 use Rattle.promises.proofs.Never.{other}
 use Rattle.promises.proofs.Repairs.{ways}
 
@@ -147,8 +149,8 @@ module _ (s : List ℕ) (net : Net) (i : ℕ) where
   solve-each-state = each-state s (net .nodes) (net .links) i (startPoint s net)
 
   -- and the damping factor stays from 0.25 to 1.
-  pub solve-in-range : Damped (pointIn s net i .damping .factor)
+  pub solve-in-range : T (le constant.quarter (pointIn s net i .damping .factor)) × T (le (pointIn s net i .damping .factor) constant.one)
   unfolding pointIn startPoint
   solve-in-range =
       let r = stays s (net .nodes) (net .links) i (startPoint s net) start-in in
-      record { least = r .least; most = r .most }
+      (r .least, r .most)

@@ -16,9 +16,9 @@ use Rattle.coefficient.specs.declared.NodeAddition.{NodeAddition}
 use Rattle.columns.specs.Columns.{cleared, addTo, takeFrom}
 use Rattle.columns.proofs.Laws.{cleared-at}
 use Rattle.nodes.specs.Fields.{enabled}
-use Rattle.nodes.specs.Numbering.{rowAt}
-use Rattle.nodes.specs.declared.numbering.Row.{Row}
-use Rattle.nodes.specs.declared.numbering.Row.the-variants.{Unknown, Fixed}
+use Rattle.numbering.specs.Numbering.{rowAt}
+use Rattle.numbering.specs.declared.Row.{Row}
+use Rattle.numbering.specs.declared.Row.the-variants.{Unknown, Fixed}
 use Rattle.scatter.specs.Scatter.{onDiagonal, lower, offBetween, givenDiagonal, linkMatrix}
 use Rattle.assembly.specs.Assembly.{System, system, Columns, coefficientsAt, linkIn, linkOf, linksOf, groundOf, groundedOf, assembleOf}
 use Rattle.promises.specs.Unfilled.{OffDiagonal, Apart, Unfilled}

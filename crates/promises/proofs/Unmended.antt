@@ -15,7 +15,7 @@ use Rattle.sheet.specs.declared.reading.Reading.the-variants.{Good, Refused}
 use Rattle.linear.specs.Factorization.{factorOf}
 use Rattle.linear.specs.declared.factorization.Factored.{Factored}
 use Rattle.linear.specs.declared.factorization.Factored.the-variants.{Done, Stopped}
-use Rattle.nodes.specs.Numbering.{before, nodeNumbered}
+use Rattle.numbering.specs.Numbering.{before, nodeNumbered}
 use Rattle.assembly.specs.Assembly.{System}
 use Rattle.state.specs.State.{State}
 use Rattle.repair.specs.Repair.{ground, free, regulatorAt, repairAt}
@@ -30,7 +30,8 @@ use Rattle.entries.specs.declared.Going.{Going}
 use Rattle.entries.specs.declared.Going.the-variants.{On, Over}
 use Rattle.entries.specs.declared.Tally.{Tally}
 use Rattle.runs.specs.Run.{after, runWith, finish}
-use Rattle.answers.specs.Answers.{Lent, shortOf, failedOf, unsolved, delivered, told}
+use Rattle.answers.specs.Answers.{Lent, shortOf, failedOf}
+use Rattle.conclusion.specs.Conclusion.{unsolved, delivered, told}
 use Rattle.solver.specs.Solve.{trialsOf, startOf, runOf, solvedWith, afterShort, afterRead, solveWith, solveOf}
 use Rattle.promises.specs.Repairs.{stopNode, stopOf, mends}
 use Rattle.promises.specs.Count.{count}

@@ -9,7 +9,7 @@ use Rattle.sheet.specs.declared.layout.Found.the-variants.{At, Nothing}
 use Rattle.linear.specs.Factorization.{factorOf}
 use Rattle.linear.specs.declared.factorization.Factored.{Factored}
 use Rattle.linear.specs.declared.factorization.Factored.the-variants.{Done, Stopped}
-use Rattle.nodes.specs.Numbering.{before, nodeNumbered}
+use Rattle.numbering.specs.Numbering.{before, nodeNumbered}
 use Rattle.state.specs.State.{State, state}
 use Rattle.repair.specs.Repair.{regulatesAt}
 use Rattle.repair.specs.declared.Entry.{Entry}

@@ -1,9 +1,6 @@
 -- Where a run of trials stands after its first i trials. Definitions only.
 use Prim.Native.Nat.{ℕ, zero, suc}
 use mathlib.Core.List.{List}
-use lib.Dec.{T}
-use lib.Ieee.{Float, le}
-use Rattle.constants.specs.Constants as constant
 use Rattle.sheet.specs.declared.reading.Net.{Net}
 use Rattle.state.specs.State.{State}
 use Rattle.repair.specs.declared.Damping.{Damping}
@@ -60,8 +57,3 @@ runIn s net = runAt s (net .nodes) (net .links) (trialsOf s) (startPoint s net)
 unfoldable pub pointIn : List ℕ → Net → ℕ → Point
 unfolding startPoint afterTrials
 pointIn s net i = afterTrials s (net .nodes) (net .links) i (startPoint s net)
-
--- a damping factor is from 0.25 to 1
-pub record Damped (factor : Float) : Type 0 where
-  pub least : T (le constant.quarter factor)
-  pub most : T (le factor constant.one)

@@ -9,9 +9,9 @@ use Rattle.records.specs.Records.{linkAt}
 use Rattle.records.specs.declared.records.Link.{Link}
 use Rattle.linear.specs.declared.factorization.UnknownIndex.{UnknownIndex}
 use Rattle.nodes.specs.Fields.{enabled}
-use Rattle.nodes.specs.Numbering.{rowAt}
-use Rattle.nodes.specs.declared.numbering.Row.{Row}
-use Rattle.nodes.specs.declared.numbering.Row.the-variants.{Unknown}
+use Rattle.numbering.specs.Numbering.{rowAt}
+use Rattle.numbering.specs.declared.Row.{Row}
+use Rattle.numbering.specs.declared.Row.the-variants.{Unknown}
 use Rattle.scatter.specs.Scatter.{lower}
 
 -- entry p is not the diagonal of a row

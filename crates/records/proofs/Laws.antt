@@ -1,33 +1,18 @@
--- Laws of the records' definitions, over plain variables: codes past the last, and a record put together from its fields. Assumes nothing.
-use mathlib.Core.Path.{_≡_, refl, sym}
-use mathlib.Core.Logic.{⊎-elim}
-use mathlib.Core.List.{List, [], _∷_}
-use Prim.Native.Nat.{ℕ, zero, suc, _+_, _≤_, _<_}
-use native.Mathlib.Nat.{eq-or-lt-of-le, le-of-suc-le-suc, not-suc-le-zero}
+-- A record put together from its fields. Assumes nothing.
+use mathlib.Core.Path.{_≡_}
+use mathlib.Core.List.{List}
+use Prim.Native.Nat.{ℕ, _+_}
 use lib.Dec.{eqb}
-use lib.ListN.{length, getD}
 use lib.Ieee.{Float}
-use Rattle.float.specs.Bytes.{fromBytes}
-use Rattle.records.specs.Codes.{nodeKindOf, linkKindOf, statusOf}
+use Rattle.patterns.specs.Bytes.{fromBytes}
+use Rattle.codes.specs.Codes.{nodeKindOf, linkKindOf, statusOf}
 use Rattle.records.specs.Records.{byteAt, shortAt, optionsOf, nodeAt, linkAt}
-use Rattle.records.specs.declared.codes.NodeKind.{NodeKind}
-use Rattle.records.specs.declared.codes.LinkKind.{LinkKind}
-use Rattle.records.specs.declared.codes.Status.{Status}
+use Rattle.codes.specs.declared.NodeKind.{NodeKind}
+use Rattle.codes.specs.declared.LinkKind.{LinkKind}
+use Rattle.codes.specs.declared.Status.{Status}
 use Rattle.records.specs.declared.records.Options.{Options}
 use Rattle.records.specs.declared.records.Node.{Node}
 use Rattle.records.specs.declared.records.Link.{Link}
-
--- what stands past a list's end
-pub past : {A : Type 0} (l : List A) (n : ℕ) (d : A) → length l ≤ n → getD l n d ≡ d
-past [] n d h = refl
-past (x ∷ l) zero d h = absurd (not-suc-le-zero h)
-past (x ∷ l) (suc n) d h = past l n d (le-of-suc-le-suc h)
-
--- above k, where it is at least k and not k
-pub not-at : {k x : ℕ} → k ≤ x → (x ≡ k → ⊥) → suc k ≤ x
-not-at {k} {x} h n = ⊎-elim (λ (e : k ≡ x). absurd (n (sym e))) (λ (l : k < x). l) (eq-or-lt-of-le h)
-
--- ---- the records
 
 module _ (s : List ℕ) where
   pub options : (x y z : Float) (t : ℕ) → x ≡ fromBytes s 2 → y ≡ fromBytes s 10 → z ≡ fromBytes s 18 → t ≡ shortAt s 26 → _≡_ {A = Options} (record { accuracy = x; damping = y; change = z; trials = t; unit = byteAt s 28 }) (optionsOf s)

@@ -3,8 +3,8 @@ use Prim.Native.Nat.{ℕ, _+_}
 use mathlib.Core.List.{List}
 use lib.Dec.{eqb}
 use lib.ListN.{getD}
-use Rattle.float.specs.Bytes.{littleEndian, fromBytes}
-use Rattle.records.specs.Codes.{nodeKindOf, linkKindOf, statusOf}
+use Rattle.patterns.specs.Bytes.{littleEndian, fromBytes}
+use Rattle.codes.specs.Codes.{nodeKindOf, linkKindOf, statusOf}
 use Rattle.records.specs.declared.records.Options.{Options}
 use Rattle.records.specs.declared.records.Node.{Node}
 use Rattle.records.specs.declared.records.Link.{Link}

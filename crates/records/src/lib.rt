@@ -1,5 +1,4 @@
 // The records of the network sheet by value, and their codes. Where they stand, from crate offsets.
-mod codes;
 mod records;
 
 pub use codes::LinkKind;

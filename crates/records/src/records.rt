@@ -3,14 +3,14 @@ ghost use mathlib.Core.Path.{_≡_};
 ghost use Prim.Native.Nat.{_+_, _≤_};
 ghost use lib.ListN.{length};
 ghost use Rattle.records.specs.Records.{optionsOf, nodeAt, linkAt, shortAt};
-use crate::codes::LinkKind;
-use crate::codes::NodeKind;
-use crate::codes::Status;
-use crate::codes::link_kind;
-use crate::codes::node_kind;
-use crate::codes::status_of;
-use float::from_bytes;
-use float::two_bytes;
+use codes::LinkKind;
+use codes::NodeKind;
+use codes::Status;
+use codes::link_kind;
+use codes::node_kind;
+use codes::status_of;
+use patterns::from_bytes;
+use patterns::two_bytes;
 
 // OP: accuracy, damping limit, max flow change, trials, flow unit.
 pub struct Options {

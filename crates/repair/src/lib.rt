@@ -6,7 +6,7 @@ ghost use Prim.Native.Nat.{_<_, _≤_, _+_};
 ghost use lib.ListN.{length};
 ghost use Rattle.records.specs.Offsets.{linkOffset};
 ghost use Rattle.repair.specs.Repair.{regulatesAt, regulatorAt, repaired, repairAt};
-use nodes::NodeIndex;
+use numbering::NodeIndex;
 use records::link_offset;
 use records::short;
 use sheet::Found;

@@ -5,8 +5,8 @@ use Prim.Native.Nat.{ℕ, _+_, _*_}
 use lib.ListN.{length}
 use lib.Ieee.{Float}
 use Rattle.columns.proofs.Laws.{add-long, take-long}
-use Rattle.nodes.specs.declared.numbering.Row.{Row}
-use Rattle.nodes.specs.declared.numbering.Row.the-variants.{Unknown, Fixed}
+use Rattle.numbering.specs.declared.Row.{Row}
+use Rattle.numbering.specs.declared.Row.the-variants.{Unknown, Fixed}
 use Rattle.rows.specs.Rows.{onRow, offRow, onDiagonal, lower, offBetween}
 
 pub on-row-long : (row : Row) (x : Float) (r : List Float) → length (onRow row x r) ≡ length r

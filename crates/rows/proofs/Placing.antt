@@ -6,8 +6,8 @@ use lib.Ieee.{Float}
 use borrow.Author.Tests.{lt-ltb, le-ltb}
 use Rattle.linear.specs.declared.factorization.UnknownIndex.{UnknownIndex}
 use Rattle.columns.specs.Columns.{addTo, takeFrom}
-use Rattle.nodes.specs.declared.numbering.Row.{Row}
-use Rattle.nodes.specs.declared.numbering.Row.the-variants.{Unknown, Fixed}
+use Rattle.numbering.specs.declared.Row.{Row}
+use Rattle.numbering.specs.declared.Row.the-variants.{Unknown, Fixed}
 use Rattle.rows.specs.Rows.{onRow, offRow, onDiagonal, lower, offBetween}
 
 module _ (row : Row) (x : Float) (e : List Float) where

@@ -5,8 +5,8 @@ use mathlib.Core.List.{List}
 use lib.Dec.{ltb}
 use lib.Ieee.{Float}
 use Rattle.columns.specs.Columns.{addTo, takeFrom}
-use Rattle.nodes.specs.declared.numbering.Row.{Row}
-use Rattle.nodes.specs.declared.numbering.Row.the-variants.{Unknown, Fixed}
+use Rattle.numbering.specs.declared.Row.{Row}
+use Rattle.numbering.specs.declared.Row.the-variants.{Unknown, Fixed}
 
 -- x added to, and taken from, a row of the right side; a node that is no unknown has none
 unfoldable pub onRow : Row → Float → List Float → List Float

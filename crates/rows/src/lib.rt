@@ -2,11 +2,11 @@
 ghost use mathlib.Core.Path.{_≡_};
 ghost use Prim.Native.Nat.{_≤_};
 ghost use lib.ListN.{length};
-ghost use Rattle.nodes.specs.Numbering.{RowBelow};
+ghost use Rattle.numbering.specs.Numbering.{RowBelow};
 ghost use Rattle.rows.specs.Rows.{onRow, offRow, onDiagonal, offBetween};
 use columns::add_to;
 use columns::take_from;
-use nodes::Row;
+use numbering::Row;
 
 // Adds to a row of the right side; a node that is no unknown has none.
 pub fn add_to_row(row: Row, x: f64, rhs: &mut [f64])

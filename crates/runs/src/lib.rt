@@ -4,7 +4,7 @@ ghost use Prim.Native.Nat.{_*_, _≤_};
 ghost use lib.ListN.{length};
 ghost use Rattle.power.specs.Tables.{tableA, tableB};
 ghost use Rattle.columns.specs.Columns.{zeros};
-ghost use Rattle.nodes.specs.Numbering.{before, RowsRight, NodesRight};
+ghost use Rattle.numbering.specs.Numbering.{before, RowsRight, NodesRight};
 ghost use Rattle.state.specs.Network.{Network};
 ghost use Rattle.state.specs.State.{state};
 ghost use Rattle.trial.specs.Trial.{Room, repairOf};

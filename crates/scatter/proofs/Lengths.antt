@@ -7,7 +7,7 @@ use lib.Ieee.{Float}
 use Rattle.constants.specs.Arithmetic.{minus, times}
 use Rattle.coefficient.specs.declared.Coefficients.{Coefficients}
 use Rattle.coefficient.specs.declared.NodeAddition.{NodeAddition}
-use Rattle.nodes.specs.declared.numbering.Row.{Row}
+use Rattle.numbering.specs.declared.Row.{Row}
 use Rattle.rows.specs.Rows.{onRow, offRow, onDiagonal, offBetween}
 use Rattle.rows.proofs.Lengths.{on-row-long, off-row-long, on-diagonal-long, between-long}
 use Rattle.scatter.specs.Scatter.{givenDiagonal, givenRow, fixedTerm, linkMatrix, linkRow}

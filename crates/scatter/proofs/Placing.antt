@@ -8,7 +8,7 @@ use Rattle.coefficient.specs.declared.Coefficients.{Coefficients}
 use Rattle.coefficient.specs.declared.NodeAddition.{NodeAddition}
 use Rattle.rows.specs.Rows.{onRow, offRow, onDiagonal, offBetween}
 use Rattle.scatter.specs.Scatter.{givenDiagonal, givenRow, fixedTerm, linkMatrix, linkRow}
-use Rattle.nodes.specs.declared.numbering.Row.{Row}
+use Rattle.numbering.specs.declared.Row.{Row}
 
 module _ (a : NodeAddition) (row : Row) (e f : List Float) where
   pub given-diagonal : a .given ≡ true → f ≡ onDiagonal row (a .diagonal) e → f ≡ givenDiagonal a row e

@@ -6,7 +6,7 @@ use Rattle.constants.specs.Arithmetic.{minus, times}
 use Rattle.coefficient.specs.declared.Coefficients.{Coefficients}
 use Rattle.coefficient.specs.declared.NodeAddition.{NodeAddition}
 unfoldable pub use Rattle.rows.specs.Rows.{onRow, offRow, onDiagonal, lower, offBetween}
-use Rattle.nodes.specs.declared.numbering.Row.{Row}
+use Rattle.numbering.specs.declared.Row.{Row}
 
 -- a regulator's addition; an absent one is not added
 unfoldable pub givenDiagonal : NodeAddition → Row → List Float → List Float

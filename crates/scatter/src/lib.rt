@@ -2,11 +2,11 @@
 ghost use mathlib.Core.Path.{_≡_};
 ghost use Prim.Native.Nat.{_≤_};
 ghost use lib.ListN.{length};
-ghost use Rattle.nodes.specs.Numbering.{RowBelow};
+ghost use Rattle.numbering.specs.Numbering.{RowBelow};
 ghost use Rattle.scatter.specs.Scatter.{givenDiagonal, givenRow, fixedTerm, linkMatrix, linkRow};
 use coefficient::Coefficients;
 use coefficient::NodeAddition;
-use nodes::Row;
+use numbering::Row;
 use rows::add_to_diagonal;
 use rows::add_to_row;
 use rows::take_between;

@@ -50,7 +50,7 @@ fn step() -> bool {
     if n < 4 {
         return false;
     }
-    let size = float::two_bytes(&head, 0) + 65536 * float::two_bytes(&head, 2);
+    let size = patterns::two_bytes(&head, 0) + 65536 * patterns::two_bytes(&head, 2);
     if 65536 < size {
         return false;
     }

@@ -10,7 +10,7 @@ use lib.Dec.{leb}
 use lib.ListN.{length, drop, replicate}
 use lib.Ieee.{Float, lt, le}
 use Rattle.records.specs.Records.{byteAt, shortAt, optionsOf}
-use Rattle.float.specs.Bytes.{fromBytes}
+use Rattle.patterns.specs.Bytes.{fromBytes}
 use Rattle.fields.specs.Fields.{baseBounds, null, allWithin, optionsGood}
 use Rattle.fields.specs.declared.fields.Bounds.{Bounds}
 use Rattle.refusals.specs.Refusals.{numberOf, placeOf}
@@ -30,7 +30,8 @@ use Rattle.trial.specs.Trial.{Repair}
 use Rattle.entries.specs.Entries.{dampingStart, none}
 use Rattle.runs.specs.Run.{runWith, finish}
 use Rattle.runs.specs.declared.Ran.{Ran}
-use Rattle.answers.specs.Answers.{Lent, Solved, shortOf, failedOf, emptied, refusedOf, told}
+use Rattle.answers.specs.Answers.{Lent, Solved, shortOf, failedOf, refusedOf}
+use Rattle.conclusion.specs.Conclusion.{emptied, told}
 use Rattle.answers.specs.declared.Answer.{Answer}
 use Rattle.solver.specs.Solve.{trialsOf, startOf, runOf, solvedWith, afterShort, afterRead, solveWith}
 

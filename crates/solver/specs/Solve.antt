@@ -16,7 +16,8 @@ use Rattle.state.specs.State.{State, state, headsFrom, demandsFrom, flowsFrom, 
 use Rattle.trial.specs.Trial.{Repair, repairOf}
 use Rattle.entries.specs.Entries.{dampingStart, none}
 use Rattle.runs.specs.Run.{runWith, Finished, finish}
-use Rattle.answers.specs.Answers.{Lent, Solved, shortOf, refusedOf, told}
+use Rattle.answers.specs.Answers.{Lent, Solved, shortOf, refusedOf}
+use Rattle.conclusion.specs.Conclusion.{told}
 
 -- how many trials the sheet allows
 abbrev pub trialsOf : List ℕ → ℕ

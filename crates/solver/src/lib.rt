@@ -41,7 +41,7 @@ fn solved(
     let links = net.links;
     state::start_nodes(sheet, nodes, &mut h, &mut d);
     state::start_links(sheet, nodes, links, &mut q, &mut s);
-    let count = nodes::number_unknowns(sheet, nodes, &mut unknowns, &mut back);
+    let count = numbering::number_unknowns(sheet, nodes, &mut unknowns, &mut back);
     let ran = runs::run_trials(
         sheet,
         nodes,
@@ -62,7 +62,7 @@ fn solved(
     );
     let tally = ran.tally;
     let ended = ran.ended;
-    answers::conclude(
+    conclusion::conclude(
         sheet,
         net,
         trials,

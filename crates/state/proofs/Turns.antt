@@ -6,12 +6,12 @@ use native.Mathlib.Numerals.{add-one}
 use native.Mathlib.Omega.{arith}
 use lib.ListN.{length, getD, set, length-set}
 use lib.Ieee.{Float, nan}
-use Rattle.float.specs.Bytes.{fromBytes}
+use Rattle.patterns.specs.Bytes.{fromBytes}
 use Rattle.records.specs.Offsets.{nodeOffset, linkOffset}
 use Rattle.records.specs.Records.{nodeAt, linkAt}
-use Rattle.nodes.specs.Numbering.{rowAt}
-use Rattle.nodes.specs.declared.numbering.Row.{Row}
-use Rattle.nodes.specs.declared.numbering.Row.the-variants.{Unknown, Fixed}
+use Rattle.numbering.specs.Numbering.{rowAt}
+use Rattle.numbering.specs.declared.Row.{Row}
+use Rattle.numbering.specs.declared.Row.the-variants.{Unknown, Fixed}
 use Rattle.linear.specs.declared.factorization.UnknownIndex.{UnknownIndex}
 use Rattle.state.specs.State.{headsFrom, demandsFrom, flowsFrom, codesFrom, withHead, solvedHeads}
 

@@ -1,4 +1,2 @@
--- The specs of `state`.
 pub mod Network
 pub mod State
-pub mod Wild

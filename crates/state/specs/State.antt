@@ -6,9 +6,9 @@ use lib.ListN.{getD, set}
 use lib.Ieee.{Float, nan}
 use Rattle.records.specs.Offsets.{nodeOffset, linkOffset}
 use Rattle.records.specs.Records.{byteAt, nodeAt, linkAt}
-use Rattle.nodes.specs.Numbering.{rowAt}
-use Rattle.nodes.specs.declared.numbering.Row.{Row}
-use Rattle.nodes.specs.declared.numbering.Row.the-variants.{Unknown, Fixed}
+use Rattle.numbering.specs.Numbering.{rowAt}
+use Rattle.numbering.specs.declared.Row.{Row}
+use Rattle.numbering.specs.declared.Row.the-variants.{Unknown, Fixed}
 
 -- a head and a demand for each node, a flow and a status code for each link, and the nodes that were grounded
 pub record State : Type 0 where

@@ -1,20 +1,16 @@
-// state.rs: the columns of a solve, what they start from, the heads that a step puts in, and the
-// test of refusal 7.
+// state.rs: the columns of a solve, what they start from, and the heads that a step puts in.
 ghost use mathlib.Core.Path.{_≡_};
 ghost use Prim.Native.Nat.{_<_, _≤_};
 ghost use lib.ListN.{length};
 ghost use Rattle.records.specs.Offsets.{nodeOffset, linkOffset};
-ghost use Rattle.nodes.specs.Numbering.{RowsRight, RowBelow};
+ghost use Rattle.numbering.specs.Numbering.{RowsRight, RowBelow};
 ghost use Rattle.state.specs.State.{headsFrom, demandsFrom, flowsFrom, codesFrom, withHead, solvedHeads};
-ghost use Rattle.state.specs.Wild.{firstWild, wildPlace};
-use float::from_bytes;
-use float::wild;
-use nodes::NodeIndex;
-use nodes::Row;
-use nodes::unknown_of;
+use numbering::NodeIndex;
+use numbering::Row;
+use numbering::unknown_of;
+use patterns::from_bytes;
 use records::link_offset;
 use records::node_offset;
-use sheet::Found;
 
 // Heads and demands as the sheet gives them.
 pub fn start_nodes(sheet: &[u8], nodes: usize, heads: &mut [f64], demands: &mut [f64])
@@ -64,32 +60,5 @@ pub fn put_heads(sheet: &[u8], nodes: usize, unknowns: &[usize], x: &[f64], head
     for i in 0..nodes {
         let row = unknown_of(unknowns, NodeIndex(i));
         put_head(row, x, i, heads);
-    }
-}
-
-// The first of the first entries that is NaN, infinite or at least 2^64 in magnitude.
-fn first_wild(x: &[f64], count: usize) -> Found
-    requires { ⌜ count ≤ length (now x) ⌝ }
-    ensures { λ r. ⌜ r ≡ firstWild (now (x .entry)) count ⌝ }
-{
-    for i in 0..count {
-        if wild(x[i]) {
-            return Found::At(i);
-        }
-    }
-    Found::Nothing
-}
-
-// The place of refusal 7: a node, else 64 and a link.
-pub fn wild_place(nodes: usize, links: usize, heads: &[f64], flows: &[f64]) -> Found
-    requires { ⌜ (nodes ≤ length (now heads)) × ((links ≤ 128) × (links ≤ length (now flows))) ⌝ }
-    ensures { λ r. ⌜ r ≡ wildPlace nodes links (now (heads .entry)) (now (flows .entry)) ⌝ }
-{
-    match first_wild(heads, nodes) {
-        Found::At(i) => Found::At(i),
-        Found::Nothing => match first_wild(flows, links) {
-            Found::At(i) => Found::At(64 + i),
-            Found::Nothing => Found::Nothing,
-        },
     }
 }

@@ -5,13 +5,13 @@ use mathlib.Core.Logic.{⊎-elim}
 use Prim.Native.Nat.{ℕ}
 use types.Run.{OneOf}
 use denote.Enum.Declared.{tagOf}
-use Rattle.records.proofs.codes.Status as status
-use Rattle.records.proofs.codes.LinkKind as kind
-use Rattle.records.specs.Codes.{statusOf, linkKindOf}
-use Rattle.records.specs.declared.codes.Status.{Status}
-use Rattle.records.specs.declared.codes.Status.the-variants.{Closed, Open, Active, TempClosed, FixedClosed, FixedOpen, XPressure, Xhead}
-use Rattle.records.specs.declared.codes.LinkKind.{LinkKind}
-use Rattle.records.specs.declared.codes.LinkKind.the-variants.{Pipe, Prv, Psv, Pbv, Fcv, Tcv, Pcv}
+use Rattle.codes.proofs.Status as status
+use Rattle.codes.proofs.LinkKind as kind
+use Rattle.codes.specs.Codes.{statusOf, linkKindOf}
+use Rattle.codes.specs.declared.Status.{Status}
+use Rattle.codes.specs.declared.Status.the-variants.{Closed, Open, Active, TempClosed, FixedClosed, FixedOpen, XPressure, Xhead}
+use Rattle.codes.specs.declared.LinkKind.{LinkKind}
+use Rattle.codes.specs.declared.LinkKind.the-variants.{Pipe, Prv, Psv, Pbv, Fcv, Tcv, Pcv}
 
 module _ {E : Type 0} (of : ℕ → E) (tag : E → ℕ) (back : (x : E) → of (tag x) ≡ x) (P : E → Type 0) where
   abbrev pub Each : List ℕ → Type 0

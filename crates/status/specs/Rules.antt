@@ -1,10 +1,10 @@
 -- The changes of a link's status (pipe.rs, valve.rs and link.rs): those of a PRV and a PSV go by the target head. Definitions only.
 use mathlib.Core.Bool.{Bool, _&&_, cond}
 use lib.Ieee.{Float, lt, le, neg}
-use Rattle.records.specs.declared.codes.LinkKind.{LinkKind}
-use Rattle.records.specs.declared.codes.LinkKind.the-variants.{Pipe, Prv, Psv, Pbv, Fcv, Tcv, Pcv}
-use Rattle.records.specs.declared.codes.Status.{Status}
-use Rattle.records.specs.declared.codes.Status.the-variants.{Closed, Open, Active, TempClosed, FixedClosed, FixedOpen, XPressure, Xhead}
+use Rattle.codes.specs.declared.LinkKind.{LinkKind}
+use Rattle.codes.specs.declared.LinkKind.the-variants.{Pipe, Prv, Psv, Pbv, Fcv, Tcv, Pcv}
+use Rattle.codes.specs.declared.Status.{Status}
+use Rattle.codes.specs.declared.Status.the-variants.{Closed, Open, Active, TempClosed, FixedClosed, FixedOpen, XPressure, Xhead}
 use Rattle.constants.specs.Arithmetic.{plus, minus}
 use Rattle.constants.specs.Constants.{qTol, hTol}
 use Rattle.status.specs.declared.Change.{Change}

@@ -10,7 +10,7 @@ use lib.Dec.{eqb, ltb}
 use lib.ListN.{length, getD, drop, drop-of-length-le}
 use lib.Seq.{drop-cons}
 use Rattle.offsets.specs.Offsets.{nodeOffset, linkOffset}
-use Rattle.text.specs.Buffer.{placed}
+use Rattle.words.specs.Buffer.{placed}
 use Rattle.text.specs.Lines.{answerLine}
 use Rattle.text.proofs.LineLaws.{answer-length}
 use Rattle.refusals.specs.Refusals.{numberOf, placeOf}

@@ -3,7 +3,7 @@
 ghost use mathlib.Core.Path.{_≡_};
 ghost use Prim.Native.Nat.{_+_, _≤_, _<_};
 ghost use lib.ListN.{length};
-ghost use Rattle.text.specs.Buffer.{placed};
+ghost use Rattle.words.specs.Buffer.{placed};
 ghost use Rattle.stream.specs.Stream.{fits, inLinks, inNodes, inOptions, stepOf, fedOf, countOf, endInNodes, endInLinks, refusalOf, lineOf};
 use refusals::Refusal;
 

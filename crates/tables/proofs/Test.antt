@@ -8,7 +8,7 @@ use native.Mathlib.Omega.{arith}
 use lib.Dec.{T, eqb, ltb, leb, eqb→eq, ltb→lt, leb→le}
 use lib.ListN.{getD}
 use lib.Ieee.{binary64, nanBits}
-use Rattle.float.proofs.Nans.{no-nan}
+use Rattle.patterns.proofs.Nans.{no-nan}
 use Rattle.tables.specs.Tables.{tableA, tableB}
 use Rattle.tables.proofs.Table.{every, at, every-of, pick}
 

@@ -1,4 +1,2 @@
-pub mod Laws
-pub mod DigitLaws
 pub mod LineLaws
 pub mod Examples

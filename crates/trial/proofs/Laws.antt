@@ -19,14 +19,14 @@ use Rattle.damping.specs.Damping.{dampedOf, relativeChange, convergedOf}
 use Rattle.columns.specs.Columns.{zeros}
 use Rattle.columns.proofs.Laws.{zeros-long}
 use Rattle.linear.proofs.Laws.{stops-below}
-use Rattle.nodes.specs.Numbering.{before, nodeOf, nodeNumbered, NodesRight}
-use Rattle.nodes.specs.declared.numbering.NodeIndex.{NodeIndex}
-use Rattle.nodes.proofs.Rows.{node-of}
+use Rattle.numbering.specs.Numbering.{before, nodeOf, nodeNumbered, NodesRight}
+use Rattle.numbering.specs.declared.NodeIndex.{NodeIndex}
+use Rattle.numbering.proofs.Rows.{node-of}
 use Rattle.excess.specs.Excess.{excessOf}
 use Rattle.assembly.specs.Assembly.{System, system, columns, assembleOf}
 use Rattle.assembly.proofs.Fresh.{fresh}
 use Rattle.state.specs.State.{State, state, solvedHeads}
-use Rattle.state.specs.Wild.{wildPlace}
+use Rattle.wild.specs.Wild.{wildPlace}
 use Rattle.update.specs.Update.{step, stepping, updateOf}
 use Rattle.update.specs.declared.Stats.{Stats}
 use Rattle.tanks.specs.Tanks.{tanks, tankLinksOf}

@@ -16,11 +16,11 @@ use Rattle.linear.specs.declared.factorization.Factored.the-variants.{Done, Sto
 use Rattle.linear.specs.declared.factorization.UnknownIndex.{UnknownIndex}
 use Rattle.damping.specs.Damping.{dampedOf, relativeChange, convergedOf}
 use Rattle.columns.specs.Columns.{zeros}
-use Rattle.nodes.specs.Numbering.{before, nodeNumbered}
+use Rattle.numbering.specs.Numbering.{before, nodeNumbered}
 use Rattle.excess.specs.Excess.{excessOf}
 use Rattle.assembly.specs.Assembly.{System, system, columns, assembleOf}
 use Rattle.state.specs.State.{State, state, solvedHeads}
-use Rattle.state.specs.Wild.{wildPlace}
+use Rattle.wild.specs.Wild.{wildPlace}
 use Rattle.update.specs.Update.{step, updateOf}
 use Rattle.update.specs.declared.Stats.{Stats}
 use Rattle.tanks.specs.Tanks.{tankLinksOf}

@@ -3,7 +3,7 @@ ghost use mathlib.Core.Path.{_≡_};
 ghost use Prim.Native.Nat.{_<_, _≤_};
 ghost use lib.ListN.{length};
 ghost use Rattle.power.specs.Tables.{tableA, tableB};
-ghost use Rattle.nodes.specs.Numbering.{before, RowsRight, NodesRight};
+ghost use Rattle.numbering.specs.Numbering.{before, RowsRight, NodesRight};
 ghost use Rattle.state.specs.Network.{Network};
 ghost use Rattle.state.specs.State.{state};
 ghost use Rattle.trial.specs.Trial.{Room, outcome, judged, stepOf, factorsOf, trialOf};
@@ -60,7 +60,7 @@ fn step(
     state::put_heads(sheet, nodes, unknowns, x, heads);
     let stats = update::update_links(sheet, nodes, links, heads, g, y, d.factor, flows, statuses);
     tanks::tank_links(sheet, nodes, links, heads, flows, demands, statuses);
-    match state::wild_place(nodes, links, heads, flows) {
+    match wild::wild_place(nodes, links, heads, flows) {
         Found::At(place) => Entry::Wild(place),
         Found::Nothing => judge(records::options_of(sheet), d, stats),
     }
@@ -118,7 +118,7 @@ pub fn trial(
     );
     match linear::factor(scratch, count) {
         Factored::Stopped(u) => {
-            let node = nodes::node_of(back, u);
+            let node = numbering::node_of(back, u);
             repair::repair(sheet, nodes, links, statuses, grounded, node)
         }
         Factored::Done => {

@@ -7,7 +7,7 @@ use lib.ListN.{length, getD, length-set}
 use lib.Ieee.{Float, nan}
 use Rattle.records.specs.Offsets.{linkOffset}
 use Rattle.records.specs.Records.{linkAt}
-use Rattle.records.specs.Codes.{statusCode}
+use Rattle.codes.specs.Codes.{statusCode}
 use Rattle.records.specs.declared.records.Link.{Link}
 use Rattle.constants.specs.Arithmetic.{minus}
 use Rattle.status.specs.declared.Change.{Change}

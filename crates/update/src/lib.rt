@@ -4,7 +4,7 @@ ghost use Prim.Native.Nat.{_<_, _≤_, _+_};
 ghost use lib.ListN.{length};
 ghost use Rattle.records.specs.Offsets.{nodeOffset, linkOffset};
 ghost use Rattle.records.specs.Records.{linkAt};
-ghost use Rattle.records.specs.Codes.{statusOf};
+ghost use Rattle.codes.specs.Codes.{statusOf};
 ghost use Rattle.sheet.specs.Ends.{EndsBelow};
 ghost use Rattle.update.specs.Update.{step, stepping, noted, counts, recoded, flowChange, changeAt, linkMoved, linkUpdate, linkUpdates, updateOf};
 use float::abs;

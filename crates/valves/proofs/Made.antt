@@ -4,8 +4,8 @@ use mathlib.Core.Bool.{false}
 use mathlib.Core.List.{[], _∷_}
 use types.Run.{OneOf}
 use lib.Ieee.{Float}
-use Rattle.records.specs.Codes.{statusOf}
-use Rattle.records.specs.declared.codes.Status.{Status}
+use Rattle.codes.specs.Codes.{statusOf}
+use Rattle.codes.specs.declared.Status.{Status}
 use Rattle.records.specs.declared.records.Link.{Link}
 use Rattle.coefficient.specs.Link.{highResistance}
 use Rattle.coefficient.specs.declared.Coefficients.{Coefficients}

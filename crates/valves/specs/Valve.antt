@@ -4,10 +4,10 @@ use mathlib.Core.Bool.{Bool, true, false, cond}
 use Rattle.float.specs.Sign.{absOf}
 use Rattle.float.specs.Order.{smallerOf, clampOf}
 use Rattle.float.specs.WholePower.{wholePower}
-use Rattle.records.specs.declared.codes.LinkKind.{LinkKind}
-use Rattle.records.specs.declared.codes.LinkKind.the-variants.{Pipe, Prv, Psv, Pbv, Fcv, Tcv, Pcv}
-use Rattle.records.specs.declared.codes.Status.{Status}
-use Rattle.records.specs.declared.codes.Status.the-variants.{Closed, Open, Active, TempClosed, FixedClosed, FixedOpen, XPressure, Xhead}
+use Rattle.codes.specs.declared.LinkKind.{LinkKind}
+use Rattle.codes.specs.declared.LinkKind.the-variants.{Pipe, Prv, Psv, Pbv, Fcv, Tcv, Pcv}
+use Rattle.codes.specs.declared.Status.{Status}
+use Rattle.codes.specs.declared.Status.the-variants.{Closed, Open, Active, TempClosed, FixedClosed, FixedOpen, XPressure, Xhead}
 use Rattle.records.specs.declared.records.Link.{Link}
 use Rattle.constants.specs.Arithmetic.{plus, minus, times, over}
 use Rattle.constants.specs.Constants.{zero, one, two, hundred, bigValue, smallValue, rqTol, lossFactor}

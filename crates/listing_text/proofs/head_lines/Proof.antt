@@ -1,7 +1,7 @@
 -- `listing_text::head_lines` meets its contract: one text behind the other. Assumes nothing.
 use native.Mathlib.Omega.{arith}
 use borrow.Author.Needs.{needs}
-use Rattle.text.proofs.Laws.{then}
+use Rattle.words.proofs.Laws.{then}
 use Rattle.text.proofs.LineLaws.{answer-length, records-length}
 use Rattle.listing_text.specs.Listing.{headLines}
 use Rattle.listing_text.proofs.head_lines.Statement.{statement}

@@ -1,8 +1,8 @@
 -- `listing_text::result_lines` meets its contract: one text behind the other. Assumes nothing.
 use native.Mathlib.Omega.{arith}
 use borrow.Author.Needs.{needs}
-use Rattle.text.proofs.Laws.{then}
-use Rattle.text.proofs.LineLaws.{nodes-length, links-length, balance-length}
+use Rattle.words.proofs.Laws.{then}
+use Rattle.results.proofs.LineLaws.{nodes-length, links-length, balance-length}
 use Rattle.listing_text.specs.Listing.{resultLines}
 use Rattle.listing_text.proofs.result_lines.Statement.{statement}
 use Rattle.listing_text.proofs.result_lines.Tie as tie

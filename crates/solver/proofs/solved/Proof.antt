@@ -7,8 +7,8 @@ use borrow.Author.Needs.{needs}
 use lib.ListN.{drop}
 use lib.Seq.{length-take-le}
 use Rattle.columns.specs.Columns.{zeros}
-use Rattle.nodes.proofs.Rows.{rows-right, nodes-right}
-use Rattle.nodes.specs.Numbering.{RowsRight, NodesRight}
+use Rattle.numbering.proofs.Rows.{rows-right, nodes-right}
+use Rattle.numbering.specs.Numbering.{RowsRight, NodesRight}
 use Rattle.state.specs.State.{state}
 use Rattle.trial.specs.Trial.{repairOf}
 use lib.Ieee.{Float}

@@ -1,5 +1,5 @@
 -- `state::put_heads` meets its contract. Assumes nothing.
-use Rattle.nodes.proofs.Rows.{row-below}
+use Rattle.numbering.proofs.Rows.{row-below}
 use Rattle.state.specs.State.{solvedHeads}
 use Rattle.state.proofs.Turns.{no-heads, next-head}
 use Rattle.state.proofs.Kept.{head-long}

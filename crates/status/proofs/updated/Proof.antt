@@ -2,9 +2,9 @@
 use mathlib.Core.Path.{_≡_, refl}
 use mathlib.Core.List.{[], _∷_}
 use Rattle.status.specs.Rules.{updatedOf}
-use Rattle.records.specs.Codes.{linkKindOf}
+use Rattle.codes.specs.Codes.{linkKindOf}
 use Rattle.status.specs.declared.Change.the-variants.{Stays}
-use Rattle.records.specs.declared.codes.LinkKind.{LinkKind}
+use Rattle.codes.specs.declared.LinkKind.{LinkKind}
 use Rattle.status.proofs.Cases.{of-kind}
 use borrow.Author.Needs.{needs}
 use Rattle.status.proofs.updated.Statement.{statement}

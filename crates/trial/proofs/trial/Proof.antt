@@ -2,7 +2,7 @@
 use native.Mathlib.Omega.{arith}
 use mathlib.Core.Path.{_≡_, sym, ap, _∙_}
 use borrow.Author.Needs.{needs}
-use Rattle.nodes.proofs.Numbers.{at-most}
+use Rattle.numbering.proofs.Numbers.{at-most}
 use Rattle.columns.specs.Columns.{zeros}
 use Rattle.assembly.specs.Assembly.{system}
 use Rattle.state.specs.State.{State, state}

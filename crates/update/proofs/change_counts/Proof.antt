@@ -1,8 +1,8 @@
 -- `update::change_counts` meets its contract. Assumes nothing.
 use mathlib.Core.Bool.{true, false}
 use mathlib.Core.List.{[], _∷_}
-use Rattle.records.specs.Codes.{statusOf}
-use Rattle.records.specs.declared.codes.Status.{Status}
+use Rattle.codes.specs.Codes.{statusOf}
+use Rattle.codes.specs.declared.Status.{Status}
 use Rattle.status.proofs.Cases.{of-status}
 use Rattle.update.specs.Update.{leaves, counts}
 use borrow.Author.Needs.{needs}

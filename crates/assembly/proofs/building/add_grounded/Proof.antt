@@ -1,5 +1,5 @@
 -- `assembly::building::add_grounded` meets its contract. Assumes nothing.
-use Rattle.nodes.proofs.Rows.{row-below}
+use Rattle.numbering.proofs.Rows.{row-below}
 use Rattle.assembly.proofs.Built.{grounded-none, grounded-next}
 use Rattle.assembly.specs.Assembly.{groundedOf}
 use native.Mathlib.Omega.{arith}
@@ -11,7 +11,7 @@ use Rattle.assembly.proofs.building.add_grounded.Tie as tie
 use Rattle.assembly.proofs.building.add_grounded.Reads as reads
 use Rattle.assembly.proofs.building.add_grounded.Lts as lts
 use Rattle.assembly.proofs.building.ground.Reads as ground-reads
-use Rattle.nodes.proofs.unknown_of.Reads as unknown-of-reads
+use Rattle.numbering.proofs.unknown_of.Reads as unknown-of-reads
 
 abbrev Inv-loop : tie.InvT-loop
 Inv-loop sheet nodes grounded unknowns matrix₀ i₀ matrix i = (i ≤ nodes) × (matrix ≡ groundedOf sheet grounded i matrix₀) × (length matrix ≡ length matrix₀)

@@ -7,7 +7,7 @@ use Rattle.assembly.proofs.building.coefficients_at.Reads as reads
 use Rattle.assembly.proofs.building.coefficients_at.Lts as lts
 use Rattle.nodes.proofs.elevation.Reads as elevation-reads
 use Rattle.model.proofs.coefficients.Reads as coefficients-reads
-use Rattle.records.proofs.status_of.Reads as status-of-reads
+use Rattle.codes.proofs.status_of.Reads as status-of-reads
 
 elevation-requires : tie.Need-elevation-requires
 elevation-requires c κs = search needs

@@ -1,5 +1,5 @@
 -- `assembly::building::place_link` meets its contract. Assumes nothing.
-use Rattle.nodes.proofs.Rows.{row-below}
+use Rattle.numbering.proofs.Rows.{row-below}
 use Rattle.assembly.proofs.Built.{placed}
 use borrow.Author.Needs.{needs}
 use mathlib.Core.Path.{_∙_}
@@ -8,7 +8,7 @@ use Rattle.assembly.proofs.building.place_link.Tie as tie
 use Rattle.assembly.proofs.building.place_link.Reads as reads
 use Rattle.assembly.proofs.building.place_link.Lts as lts
 use Rattle.nodes.proofs.is_fixed.Reads as is-fixed-reads
-use Rattle.nodes.proofs.unknown_of.Reads as unknown-of-reads
+use Rattle.numbering.proofs.unknown_of.Reads as unknown-of-reads
 use Rattle.scatter.proofs.link_into_matrix.Reads as link-into-matrix-reads
 use Rattle.scatter.proofs.link_into_row.Reads as link-into-row-reads
 

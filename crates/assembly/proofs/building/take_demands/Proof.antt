@@ -1,5 +1,5 @@
 -- `assembly::building::take_demands` meets its contract. Assumes nothing.
-use Rattle.nodes.proofs.Rows.{row-below}
+use Rattle.numbering.proofs.Rows.{row-below}
 use Rattle.assembly.proofs.Built.{demands-from, demands-on}
 use Rattle.assembly.specs.Assembly.{demandsOf}
 use native.Mathlib.Omega.{arith}
@@ -10,7 +10,7 @@ use Rattle.assembly.proofs.building.take_demands.Statement.{statement}
 use Rattle.assembly.proofs.building.take_demands.Tie as tie
 use Rattle.assembly.proofs.building.take_demands.Reads as reads
 use Rattle.assembly.proofs.building.take_demands.Lts as lts
-use Rattle.nodes.proofs.unknown_of.Reads as unknown-of-reads
+use Rattle.numbering.proofs.unknown_of.Reads as unknown-of-reads
 use Rattle.rows.proofs.take_from_row.Reads as take-from-row-reads
 
 abbrev Inv-loop : tie.InvT-loop

@@ -1,7 +1,7 @@
 -- `float::order::larger` meets its contract. Assumes nothing.
 use lib.Ieee.{isNan}
 use Rattle.float.specs.Order.{largerOf}
-use Rattle.float.proofs.Nans.{is-nan, not-nan}
+use Rattle.patterns.proofs.Nans.{is-nan, not-nan}
 use Rattle.float.proofs.order.larger.Statement.{statement}
 use Rattle.float.proofs.order.larger.Tie as tie
 

@@ -1,7 +1,7 @@
 -- `float::order::smaller` meets its contract. Assumes nothing.
 use lib.Ieee.{isNan}
 use Rattle.float.specs.Order.{smallerOf}
-use Rattle.float.proofs.Nans.{is-nan, not-nan}
+use Rattle.patterns.proofs.Nans.{is-nan, not-nan}
 use Rattle.float.proofs.order.smaller.Statement.{statement}
 use Rattle.float.proofs.order.smaller.Tie as tie
 

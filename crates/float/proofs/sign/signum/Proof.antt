@@ -4,7 +4,7 @@ use lib.Dec.{T}
 use lib.Ieee.{binary64, fits, ofBits, ofFields, odd, neg}
 use lib.Count.{trailingZeros}
 use Rattle.float.specs.Sign.{signumOf}
-use Rattle.float.proofs.Nans.{is-nan, not-nan, has-pattern}
+use Rattle.patterns.proofs.Nans.{is-nan, not-nan, has-pattern}
 use Rattle.float.proofs.Signs.{plus, minus}
 use Rattle.float.proofs.sign.signum.Statement.{statement}
 use Rattle.float.proofs.sign.signum.Tie as tie

@@ -6,7 +6,7 @@ use lib.Dec.{le→leb}
 use lib.Ieee.{Float, binary64, isNan, toBits, ofBits, div, ofFields, odd, nanBits, inFloat}
 use borrow.Author.Needs.{needs}
 use Rattle.power.specs.Power.{powerOf, powerBits, between}
-use Rattle.float.proofs.Nans.{is-nan, has-pattern}
+use Rattle.patterns.proofs.Nans.{is-nan, has-pattern}
 use Rattle.power.proofs.Cases.{at-pattern, minus-zero, below-zero, tiny, huge, middle}
 use Rattle.power.proofs.recipe.power.Statement.{statement}
 use Rattle.power.proofs.recipe.power.Tie as tie

@@ -1,7 +1,7 @@
 -- `roots::square_root::guess` meets its contract. Assumes nothing.
 use native.Mathlib.Omega.{arith}
 use borrow.Author.Needs.{needs}
-use Rattle.float.proofs.Nans.{has-pattern, no-nan}
+use Rattle.patterns.proofs.Nans.{has-pattern, no-nan}
 use Rattle.roots.proofs.square_root.guess.Statement.{statement}
 use Rattle.roots.proofs.square_root.guess.Tie as tie
 

@@ -1,0 +1,3 @@
+pub mod Nans
+pub mod ByteLaws
+pub mod Examples

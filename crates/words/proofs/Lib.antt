@@ -1,0 +1,4 @@
+pub mod Laws
+pub mod DigitLaws
+pub mod WordLaws
+pub mod Examples
