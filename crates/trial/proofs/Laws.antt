@@ -1,21 +1,16 @@
 -- One trial over plain variables: what the calls leave, put together. Assumes nothing.
-use Prim.Native.Nat.{ℕ, _≤_, _<_}
-use mathlib.Core.Path.{_≡_, refl, sym, ap, _∙_}
+use Prim.Native.Nat.{ℕ, _<_}
+use mathlib.Core.Path.{_≡_, sym, ap, _∙_}
 use mathlib.Core.List.{List}
-use mathlib.Core.Bool.{Bool, true, false}
+use mathlib.Core.Bool.{Bool}
 use native.Mathlib.Omega.{arith}
 use lib.ListN.{length}
 use lib.Ieee.{Float}
-use Rattle.records.specs.Records.{optionsOf}
-use Rattle.records.specs.declared.records.Options.{Options}
-use Rattle.sheet.specs.declared.layout.Found.{Found}
-use Rattle.sheet.specs.declared.layout.Found.the-variants.{At, Nothing}
 use Rattle.linear.specs.Factorization.{factorOf}
 use Rattle.substitution.specs.Substitution.{solved}
 use Rattle.linear.specs.declared.factorization.Factored.{Factored}
 use Rattle.linear.specs.declared.factorization.Factored.the-variants.{Done, Stopped}
 use Rattle.linear.specs.declared.factorization.UnknownIndex.{UnknownIndex}
-use Rattle.damping.specs.Damping.{dampedOf, relativeChange, convergedOf}
 use Rattle.columns.specs.Columns.{zeros}
 use Rattle.columns.proofs.Laws.{zeros-long}
 use Rattle.linear.proofs.Laws.{stops-below}
@@ -25,50 +20,11 @@ use Rattle.numbering.proofs.Rows.{node-of}
 use Rattle.excess.specs.Excess.{excessOf}
 use Rattle.assembly.specs.Assembly.{System, system, columns, assembleOf}
 use Rattle.assembly.proofs.Fresh.{fresh}
-use Rattle.state.specs.State.{State, state, solvedHeads}
-use Rattle.wild.specs.Wild.{wildPlace}
-use Rattle.update.specs.Update.{step, stepping, updateOf}
-use Rattle.update.specs.declared.Stats.{Stats}
-use Rattle.tanks.specs.Tanks.{tanks, tankLinksOf}
+use Rattle.state.specs.State.{State, state}
 use Rattle.repair.specs.Repair.{repaired, repairAt}
 use Rattle.repair.specs.declared.Damping.{Damping}
 use Rattle.repair.specs.declared.Entry.{Entry}
-use Rattle.repair.specs.declared.Entry.the-variants.{Wild, Stepped, Converged}
-use Rattle.trial.specs.Trial.{Outcome, outcome, Repair, repairOf, judged, verdict, stepOf, factored, systemOf, factorsOf, trialWith}
-
--- ---- the verdict
-
-module _ (o : Options) (d : Damping) (m : Stats) (change : Float) (moved : change ≡ relativeChange (m .moved) (m .total) (o .accuracy)) (b : Bool)
-    (tested : b ≡ convergedOf change (o .accuracy) (m .changed) (m .largest) (o .unit) (o .change)) where
-  pub judged-converged : b ≡ true → Converged ≡ judged o d m
-  unfolding judged
-  judged-converged t = rw (← moved, ← tested, t)
-
-  pub judged-stepped : (factor : Float) → factor ≡ dampedOf (d .factor) (d .previous) change (o .damping) → b ≡ false → Stepped (record { factor = factor; previous = change }) ≡ judged o d m
-  unfolding judged
-  judged-stepped factor f t = rw (← moved, ← tested, t, f)
-
-module _ (o : Options) (d : Damping) (f : Found) (m : Stats) where
-  pub verdict-wild : (p : ℕ) → f ≡ At p → Wild p ≡ verdict f o d m
-  unfolding verdict
-  verdict-wild p e = rw e
-
-  pub verdict-judged : (o' : Options) (r : Entry) → f ≡ Nothing → o' ≡ o → r ≡ judged o' d m → r ≡ verdict f o d m
-  unfolding verdict
-  verdict-judged o' r e h j = rw (e, ← h) j
-
--- ---- the calls of a step
-
-pub step-of : (s : List ℕ) (n k : ℕ) (d : Damping) (t : State) (g y x h q w : List Float) (codes codes' : List ℕ) (m : Stats) (r : Entry)
-    → h ≡ solvedHeads s x n (t .heads)
-    → stepping q codes m ≡ updateOf s n k (step h g y (d .factor)) (t .flows) (t .statuses)
-    → tanks w codes' ≡ tankLinksOf s n k h q (t .demands) codes
-    → r ≡ verdict (wildPlace n k h q) (optionsOf s) d m
-    → outcome r (state h w q codes' (t .grounded)) ≡ stepOf s n k d t g y x
-unfolding stepOf
-step-of s n k d t g y x h q w codes codes' m r eh eu et er = rw (← eh, ← eu, ← et, er)
-
--- ---- the calls of a trial
+use Rattle.trial.specs.Trial.{Outcome, outcome, Repair, repairOf, stepOf, factored, systemOf, factorsOf, trialWith}
 
 module _ (s : List ℕ) (n k : ℕ) (t : State) (m₀ e m r g y : List Float) where
   pub system-of : length m₀ ≡ 4096 → e ≡ excessOf s n k (t .demands) (t .flows) (zeros 64)

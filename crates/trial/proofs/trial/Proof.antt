@@ -1,6 +1,6 @@
 -- `trial::trial` meets its contract: the calls in their order, put together by one law. Assumes nothing.
 use native.Mathlib.Omega.{arith}
-use mathlib.Core.Path.{_≡_, sym, ap, _∙_}
+use mathlib.Core.Path.{_≡_}
 use borrow.Author.Needs.{needs}
 use Rattle.numbering.proofs.Numbers.{at-most}
 use Rattle.columns.specs.Columns.{zeros}

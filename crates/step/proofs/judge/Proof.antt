@@ -1,9 +1,8 @@
--- `trial::judge` meets its contract. Assumes nothing.
-use mathlib.Core.Path.{_≡_}
+-- `step::judge` meets its contract. Assumes nothing.
 use borrow.Author.Needs.{needs}
-use Rattle.trial.proofs.Laws.{judged-converged, judged-stepped}
-use Rattle.trial.proofs.judge.Statement.{statement}
-use Rattle.trial.proofs.judge.Tie as tie
+use Rattle.step.proofs.Laws.{judged-converged, judged-stepped}
+use Rattle.step.proofs.judge.Statement.{statement}
+use Rattle.step.proofs.judge.Tie as tie
 
 returns : tie.Need-returns
 returns c =

@@ -1,10 +1,10 @@
--- `trial::step` meets its contract: the calls in their order, put together by one law. Assumes nothing.
+-- `step::step` meets its contract: the calls in their order, put together by one law. Assumes nothing.
 use native.Mathlib.Omega.{arith}
 use mathlib.Core.Path.{sym, _∙_}
 use borrow.Author.Needs.{needs}
-use Rattle.trial.proofs.Laws.{step-of, verdict-wild, verdict-judged}
-use Rattle.trial.proofs.step.Statement.{statement}
-use Rattle.trial.proofs.step.Tie as tie
+use Rattle.step.proofs.Laws.{step-of, verdict-wild, verdict-judged}
+use Rattle.step.proofs.step.Statement.{statement}
+use Rattle.step.proofs.step.Tie as tie
 
 put-heads-requires : tie.Need-put-heads-requires
 put-heads-requires c κs =

@@ -1,0 +1,52 @@
+-- One step over plain variables: what the calls leave, put together. Assumes nothing.
+use Prim.Native.Nat.{ℕ}
+use mathlib.Core.Path.{_≡_}
+use mathlib.Core.List.{List}
+use mathlib.Core.Bool.{Bool, true, false}
+use lib.Ieee.{Float}
+use Rattle.records.specs.Records.{optionsOf}
+use Rattle.records.specs.declared.records.Options.{Options}
+use Rattle.sheet.specs.declared.layout.Found.{Found}
+use Rattle.sheet.specs.declared.layout.Found.the-variants.{At, Nothing}
+use Rattle.damping.specs.Damping.{dampedOf, relativeChange, convergedOf}
+use Rattle.state.specs.State.{State, state, solvedHeads}
+use Rattle.wild.specs.Wild.{wildPlace}
+use Rattle.update.specs.Update.{step, stepping, updateOf}
+use Rattle.update.specs.declared.Stats.{Stats}
+use Rattle.tanks.specs.Tanks.{tanks, tankLinksOf}
+use Rattle.repair.specs.declared.Damping.{Damping}
+use Rattle.repair.specs.declared.Entry.{Entry}
+use Rattle.repair.specs.declared.Entry.the-variants.{Wild, Stepped, Converged}
+use Rattle.step.specs.Step.{outcome, judged, verdict, stepOf}
+
+-- ---- the verdict
+
+module _ (o : Options) (d : Damping) (m : Stats) (change : Float) (moved : change ≡ relativeChange (m .moved) (m .total) (o .accuracy)) (b : Bool)
+    (tested : b ≡ convergedOf change (o .accuracy) (m .changed) (m .largest) (o .unit) (o .change)) where
+  pub judged-converged : b ≡ true → Converged ≡ judged o d m
+  unfolding judged
+  judged-converged t = rw (← moved, ← tested, t)
+
+  pub judged-stepped : (factor : Float) → factor ≡ dampedOf (d .factor) (d .previous) change (o .damping) → b ≡ false → Stepped (record { factor = factor; previous = change }) ≡ judged o d m
+  unfolding judged
+  judged-stepped factor f t = rw (← moved, ← tested, t, f)
+
+module _ (o : Options) (d : Damping) (f : Found) (m : Stats) where
+  pub verdict-wild : (p : ℕ) → f ≡ At p → Wild p ≡ verdict f o d m
+  unfolding verdict
+  verdict-wild p e = rw e
+
+  pub verdict-judged : (o' : Options) (r : Entry) → f ≡ Nothing → o' ≡ o → r ≡ judged o' d m → r ≡ verdict f o d m
+  unfolding verdict
+  verdict-judged o' r e h j = rw (e, ← h) j
+
+-- ---- the calls of a step
+
+pub step-of : (s : List ℕ) (n k : ℕ) (d : Damping) (t : State) (g y x h q w : List Float) (codes codes' : List ℕ) (m : Stats) (r : Entry)
+    → h ≡ solvedHeads s x n (t .heads)
+    → stepping q codes m ≡ updateOf s n k (step h g y (d .factor)) (t .flows) (t .statuses)
+    → tanks w codes' ≡ tankLinksOf s n k h q (t .demands) codes
+    → r ≡ verdict (wildPlace n k h q) (optionsOf s) d m
+    → outcome r (state h w q codes' (t .grounded)) ≡ stepOf s n k d t g y x
+unfolding stepOf
+step-of s n k d t g y x h q w codes codes' m r eh eu et er = rw (← eh, ← eu, ← et, er)

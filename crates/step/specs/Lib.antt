@@ -1,0 +1,2 @@
+-- The specs of `step`.
+pub mod Step

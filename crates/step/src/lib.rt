@@ -1,0 +1,65 @@
+// A trial's step once its matrix is factored: heads, flows and statuses, tank links, then the verdict.
+ghost use mathlib.Core.Path.{_≡_};
+ghost use Prim.Native.Nat.{_≤_};
+ghost use lib.ListN.{length};
+ghost use Rattle.numbering.specs.Numbering.{RowsRight};
+ghost use Rattle.state.specs.Network.{Network};
+ghost use Rattle.state.specs.State.{state};
+ghost use Rattle.step.specs.Step.{Room, outcome, judged, stepOf};
+use records::Options;
+use repair::Damping;
+use repair::Entry;
+use sheet::Found;
+use update::Stats;
+
+// Relative change, damping and convergence.
+fn judge(options: Options, d: Damping, stats: Stats) -> Entry
+    ensures { λ r. ⌜ r ≡ judged options d stats ⌝ }
+{
+    let change = damping::relative_change(stats.moved, stats.total, options.accuracy);
+    if damping::converged(
+        change,
+        options.accuracy,
+        stats.changed,
+        stats.largest,
+        options.unit,
+        options.change,
+    ) {
+        return Entry::Converged;
+    }
+    Entry::Stepped(Damping {
+        factor: damping::damped(d.factor, d.previous, change, options.damping),
+        previous: change,
+    })
+}
+
+// The step of a trial whose matrix was factored: x is the solved right side.
+pub fn step(
+    sheet: &[u8],
+    nodes: usize,
+    links: usize,
+    unknowns: &[usize],
+    d: Damping,
+    g: &[f64],
+    y: &[f64],
+    x: &[f64],
+    heads: &mut [f64],
+    demands: &mut [f64],
+    flows: &mut [f64],
+    statuses: &mut [u8],
+    grounded: &[bool],
+) -> Entry
+    requires { ⌜ Network nodes links (now sheet) ⌝ }
+    requires { ⌜ (nodes ≤ length (now unknowns)) × (RowsRight nodes (now sheet) (now unknowns)) ⌝ }
+    requires { ⌜ (links ≤ length (now g)) × ((links ≤ length (now y)) × (64 ≤ length (now x))) ⌝ }
+    requires { ⌜ Room nodes links (state (now heads) (now demands) (now flows) (now statuses) (now grounded)) ⌝ }
+    ensures { λ r. ⌜ outcome r (state (now (heads .exit)) (now (demands .exit)) (now (flows .exit)) (now (statuses .exit)) (now (grounded .entry))) ≡ stepOf (now (sheet .entry)) nodes links d (state (now (heads .entry)) (now (demands .entry)) (now (flows .entry)) (now (statuses .entry)) (now (grounded .entry))) (now (g .entry)) (now (y .entry)) (now (x .entry)) ⌝ }
+{
+    state::put_heads(sheet, nodes, unknowns, x, heads);
+    let stats = update::update_links(sheet, nodes, links, heads, g, y, d.factor, flows, statuses);
+    tanks::tank_links(sheet, nodes, links, heads, flows, demands, statuses);
+    match wild::wild_place(nodes, links, heads, flows) {
+        Found::At(place) => Entry::Wild(place),
+        Found::Nothing => judge(records::options_of(sheet), d, stats),
+    }
+}
