@@ -24,8 +24,8 @@ pub struct Ran {
     pub tally: Tally,
 }
 
-// Trials until one ends the run, or until there are no more.
-fn try_all(
+// Trials until one ends the run, or until there are no more; the scratch is all +0.0 at the end.
+pub fn run_trials(
     sheet: &[u8],
     nodes: usize,
     links: usize,
@@ -50,7 +50,7 @@ fn try_all(
     requires { ⌜ Room nodes links (state (now heads) (now demands) (now flows) (now statuses) (now grounded)) ⌝ }
     requires { ⌜ (trials ≤ 65535) × ((4 * trials ≤ length (now entries)) × (length (now scratch) ≡ 4096)) ⌝ }
     ensures state { λ r. ⌜ record { ran = r; bytes = now (entries .exit); state = state (now (heads .exit)) (now (demands .exit)) (now (flows .exit)) (now (statuses .exit)) (now (grounded .exit)) } ≡ finish 0 none (now (entries .entry)) (runWith repairOf (now (sheet .entry)) nodes links trials dampingStart (state (now (heads .entry)) (now (demands .entry)) (now (flows .entry)) (now (statuses .entry)) (now (grounded .entry)))) ⌝ }
-    ensures length { λ r. ⌜ length (now (scratch .exit)) ≡ 4096 ⌝ }
+    ensures cleared { λ r. ⌜ now (scratch .exit) ≡ zeros 4096 ⌝ }
 {
     let mut d = damping_start();
     let mut tally = Tally {
@@ -85,6 +85,7 @@ fn try_all(
                 d = next;
             }
             Going::Over(ended) => {
+                columns::clear(4096, scratch);
                 return Ran {
                     ended: ended,
                     tally: tally,
@@ -92,58 +93,9 @@ fn try_all(
             }
         }
     }
+    columns::clear(4096, scratch);
     Ran {
         ended: Ended::Limit,
         tally: tally,
     }
-}
-
-// The same, with the scratch all +0.0 at the end.
-pub fn run_trials(
-    sheet: &[u8],
-    nodes: usize,
-    links: usize,
-    trials: usize,
-    unknowns: &[usize],
-    back: &[usize],
-    unknown_count: usize,
-    a: &[u64; 1025],
-    b: &[u64; 128],
-    heads: &mut [f64],
-    demands: &mut [f64],
-    flows: &mut [f64],
-    statuses: &mut [u8],
-    grounded: &mut [bool],
-    entries: &mut [u8],
-    scratch: &mut [f64],
-) -> Ran
-    requires { ⌜ Network nodes links (now sheet) ⌝ }
-    requires { ⌜ («unknown_count» ≡ before (now sheet) nodes) × ((nodes ≤ length (now unknowns)) × (nodes ≤ length (now back))) ⌝ }
-    requires { ⌜ (RowsRight nodes (now sheet) (now unknowns)) × (NodesRight nodes (now sheet) (now back)) ⌝ }
-    requires { ⌜ (now a ≡ tableA) × (now b ≡ tableB) ⌝ }
-    requires { ⌜ Room nodes links (state (now heads) (now demands) (now flows) (now statuses) (now grounded)) ⌝ }
-    requires { ⌜ (trials ≤ 65535) × ((4 * trials ≤ length (now entries)) × (length (now scratch) ≡ 4096)) ⌝ }
-    ensures state { λ r. ⌜ record { ran = r; bytes = now (entries .exit); state = state (now (heads .exit)) (now (demands .exit)) (now (flows .exit)) (now (statuses .exit)) (now (grounded .exit)) } ≡ finish 0 none (now (entries .entry)) (runWith repairOf (now (sheet .entry)) nodes links trials dampingStart (state (now (heads .entry)) (now (demands .entry)) (now (flows .entry)) (now (statuses .entry)) (now (grounded .entry)))) ⌝ }
-    ensures cleared { λ r. ⌜ now (scratch .exit) ≡ zeros 4096 ⌝ }
-{
-    let ran = try_all(
-        sheet,
-        nodes,
-        links,
-        trials,
-        unknowns,
-        back,
-        unknown_count,
-        a,
-        b,
-        heads,
-        demands,
-        flows,
-        statuses,
-        grounded,
-        entries,
-        scratch,
-    );
-    columns::clear(4096, scratch);
-    ran
 }
