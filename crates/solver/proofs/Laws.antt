@@ -25,11 +25,10 @@ use Rattle.sheet.proofs.Laws.{and-left, and-right}
 use Rattle.accepted.proofs.Accepts.{accepts, ends-are, base-finite}
 use Rattle.columns.specs.Columns.{zeros}
 use Rattle.state.specs.Network.{Network}
-use Rattle.state.specs.State.{State, state, headsFrom, demandsFrom, flowsFrom, codesFrom}
+use Rattle.state.specs.State.{state, headsFrom, demandsFrom, flowsFrom, codesFrom}
 use Rattle.trial.specs.Trial.{Repair}
 use Rattle.entries.specs.Entries.{dampingStart, none}
-use Rattle.runs.specs.Run.{runWith, finish}
-use Rattle.runs.specs.declared.Ran.{Ran}
+use Rattle.runs.specs.Run.{Finished, runWith, finish}
 use Rattle.answers.specs.Answers.{Lent, Solved, shortOf, failedOf, refusedOf}
 use Rattle.conclusion.specs.Conclusion.{emptied, told}
 use Rattle.answers.specs.declared.Answer.{Answer}
@@ -60,13 +59,19 @@ pub emptied-part : (y x : List Float) → y ≡ zeros 4096 → y ++ drop 4096 x 
 unfolding emptied
 emptied-part y x e = rw e
 
-pub solved-of : (repair : Repair) (s : List ℕ) (net : Net) (trials : ℕ) (l : Lent) (r : Ran) (bytes : List ℕ) (h d q : List Float) (codes : List ℕ) (t : State) (o : Solved)
+pub run-of : (repair : Repair) (s : List ℕ) (net : Net) (trials : ℕ) (bytes : List ℕ) (h d q : List Float) (codes : List ℕ) (f : Finished)
     → trials ≡ trialsOf s → h ≡ headsFrom s (net .nodes) (zeros 64) → d ≡ demandsFrom s (net .nodes) (zeros 64) → q ≡ flowsFrom s (net .nodes) (net .links) (zeros 128)
     → codes ≡ codesFrom s (net .nodes) (net .links) (replicate 128 0)
-    → record { ran = r; bytes = bytes; state = t } ≡ finish 0 none (l .entries) (runWith repair s (net .nodes) (net .links) trials dampingStart (state h d q codes (replicate 64 false)))
-    → o ≡ told s net trials l t (r .tally) bytes (r .ended) → o ≡ solvedWith repair s net l
-unfolding solvedWith runOf startOf
-solved-of repair s net trials l r bytes h d q codes t o et eh ed eq ec er eo = rw (← et, ← eh, ← ed, ← eq, ← ec, ← er) eo
+    → f ≡ finish 0 none bytes (runWith repair s (net .nodes) (net .links) trials dampingStart (state h d q codes (replicate 64 false)))
+    → f ≡ runOf repair s net bytes
+unfolding runOf startOf
+run-of repair s net trials bytes h d q codes f et eh ed eq ec ef = rw (← et, ← eh, ← ed, ← eq, ← ec) ef
+
+pub solved-of : (repair : Repair) (s : List ℕ) (net : Net) (trials : ℕ) (l : Lent) (f : Finished) (o : Solved)
+    → trials ≡ trialsOf s → f ≡ runOf repair s net (l .entries) → o ≡ told s net trials l (f .state) (f .ran .tally) (f .bytes) (f .ran .ended)
+    → o ≡ solvedWith repair s net l
+unfolding solvedWith
+solved-of repair s net trials l f o et ef eo = rw (← ef, ← et) eo
 
 -- ---- before the run
 

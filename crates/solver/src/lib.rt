@@ -1,32 +1,39 @@
 // The whole solve, for any sheet and any buffers.
 ghost use mathlib.Core.Path.{_≡_};
+ghost use Prim.Native.Nat.{_*_, _≤_};
+ghost use lib.ListN.{length};
 ghost use Rattle.sheet.specs.Read.{readOf};
+ghost use Rattle.state.specs.State.{state};
 ghost use Rattle.answers.specs.Answers.{lent, Enough};
-ghost use Rattle.trial.specs.Trial.{repairOf};
-ghost use Rattle.solver.specs.Solve.{trialsOf, solvedWith, solveOf};
+ghost use Rattle.conclusion.specs.Conclusion.{emptied};
+ghost use Rattle.trial.specs.Trial.{Room, repairOf};
+ghost use Rattle.solver.specs.Solve.{trialsOf, runOf, solvedWith, solveOf};
 use answers::Answer;
 use entries::Tally;
+use runs::Ran;
 use sheet::Found;
 use sheet::Net;
 use sheet::Reading;
 
-// The solve of a sheet that was read, with buffers that are long enough. The columns are this
-// function's own until the run has converged.
-fn solved(
-    sheet: &[u8],
-    net: Net,
-    trials: usize,
-    heads: &mut [f64],
-    demands: &mut [f64],
-    flows: &mut [f64],
-    statuses: &mut [u8],
-    entries: &mut [u8],
-    scratch: &mut [f64],
-) -> Answer
+// How a run ended, and the columns that it left.
+struct Done {
+    ran: Ran,
+    heads: [f64; 64],
+    demands: [f64; 64],
+    flows: [f64; 128],
+    statuses: [u8; 128],
+    grounded: [bool; 64],
+}
+
+// The run of a sheet that was read. Its columns are not the caller's, who gets them only of a run
+// that converged.
+fn run(sheet: &[u8], net: Net, trials: usize, entries: &mut [u8], scratch: &mut [f64]) -> Done
     requires { ⌜ readOf (now sheet) ≡ Reading.Good net ⌝ }
     requires { ⌜ trials ≡ trialsOf (now sheet) ⌝ }
-    requires { ⌜ Enough net trials (lent (now heads) (now demands) (now flows) (now statuses) (now entries) (now scratch)) ⌝ }
-    ensures { λ r. ⌜ record { answer = r; lent = lent (now (heads .exit)) (now (demands .exit)) (now (flows .exit)) (now (statuses .exit)) (now (entries .exit)) (now (scratch .exit)) } ≡ solvedWith repairOf (now (sheet .entry)) net (lent (now (heads .entry)) (now (demands .entry)) (now (flows .entry)) (now (statuses .entry)) (now (entries .entry)) (now (scratch .entry))) ⌝ }
+    requires { ⌜ (4 * trials ≤ length (now entries)) × (4096 ≤ length (now scratch)) ⌝ }
+    ensures state { λ r. ⌜ record { ran = r .ran; bytes = now (entries .exit); state = state (r .heads) (r .demands) (r .flows) (r .statuses) (r .grounded) } ≡ runOf repairOf (now (sheet .entry)) net (now (entries .entry)) ⌝ }
+    ensures room { λ r. ⌜ Room (net .nodes) (net .links) (state (r .heads) (r .demands) (r .flows) (r .statuses) (r .grounded)) ⌝ }
+    ensures emptied { λ r. ⌜ now (scratch .exit) ≡ emptied (now (scratch .entry)) ⌝ }
 {
     let mut h = [0.0f64; 64];
     let mut d = [0.0f64; 64];
@@ -60,6 +67,39 @@ fn solved(
         entries,
         &mut scratch[..4096],
     );
+    Done {
+        ran: ran,
+        heads: h,
+        demands: d,
+        flows: q,
+        statuses: s,
+        grounded: k,
+    }
+}
+
+// The solve of a sheet that was read, with buffers that are long enough.
+fn solved(
+    sheet: &[u8],
+    net: Net,
+    trials: usize,
+    heads: &mut [f64],
+    demands: &mut [f64],
+    flows: &mut [f64],
+    statuses: &mut [u8],
+    entries: &mut [u8],
+    scratch: &mut [f64],
+) -> Answer
+    requires { ⌜ readOf (now sheet) ≡ Reading.Good net ⌝ }
+    requires { ⌜ trials ≡ trialsOf (now sheet) ⌝ }
+    requires { ⌜ Enough net trials (lent (now heads) (now demands) (now flows) (now statuses) (now entries) (now scratch)) ⌝ }
+    ensures { λ r. ⌜ record { answer = r; lent = lent (now (heads .exit)) (now (demands .exit)) (now (flows .exit)) (now (statuses .exit)) (now (entries .exit)) (now (scratch .exit)) } ≡ solvedWith repairOf (now (sheet .entry)) net (lent (now (heads .entry)) (now (demands .entry)) (now (flows .entry)) (now (statuses .entry)) (now (entries .entry)) (now (scratch .entry))) ⌝ }
+{
+    let done = run(sheet, net, trials, entries, scratch);
+    let ran = done.ran;
+    let h = done.heads;
+    let mut d = done.demands;
+    let q = done.flows;
+    let s = done.statuses;
     let tally = ran.tally;
     let ended = ran.ended;
     conclusion::conclude(
