@@ -8,7 +8,7 @@ use Rattle.assembly.proofs.building.add_links.Statement.{statement}
 use Rattle.assembly.proofs.building.add_links.Tie as tie
 use Rattle.assembly.proofs.building.add_links.Reads as reads
 use Rattle.assembly.proofs.building.add_links.Lts as lts
-use Rattle.assembly.proofs.building.add_link.Reads as add-link-reads
+use Rattle.link_rows.proofs.add_link.Reads as add-link-reads
 
 abbrev Inv-loop : tie.InvT-loop
 Inv-loop sheet nodes links heads flows statuses excess unknowns a b matrix₀ rhs₀ g₀ y₀ i₀ matrix rhs g y i = Linked sheet nodes links (columns heads flows statuses excess) matrix₀ rhs₀ g₀ y₀ matrix rhs g y i

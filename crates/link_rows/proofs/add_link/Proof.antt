@@ -1,15 +1,15 @@
--- `assembly::building::add_link` meets its contract. Assumes nothing.
-use Rattle.assembly.proofs.Built.{start-below, end-below, link-in, link-out}
-use Rattle.assembly.specs.Assembly.{columns}
+-- `link_rows::add_link` meets its contract. Assumes nothing.
+use Rattle.link_rows.proofs.Laws.{start-below, end-below, link-in, link-out}
+use Rattle.link_rows.specs.Links.{columns}
 use borrow.Author.Needs.{needs}
 use native.Mathlib.Omega.{arith}
-use Rattle.assembly.proofs.building.add_link.Statement.{statement}
-use Rattle.assembly.proofs.building.add_link.Tie as tie
-use Rattle.assembly.proofs.building.add_link.Reads as reads
-use Rattle.assembly.proofs.building.add_link.Lts as lts
-use Rattle.assembly.proofs.building.coefficients_at.Reads as coefficients-at-reads
+use Rattle.link_rows.proofs.add_link.Statement.{statement}
+use Rattle.link_rows.proofs.add_link.Tie as tie
+use Rattle.link_rows.proofs.add_link.Reads as reads
+use Rattle.link_rows.proofs.add_link.Lts as lts
+use Rattle.link_rows.proofs.coefficients_at.Reads as coefficients-at-reads
 use Rattle.nodes.proofs.is_enabled.Reads as is-enabled-reads
-use Rattle.assembly.proofs.building.place_link.Reads as place-link-reads
+use Rattle.link_rows.proofs.place_link.Reads as place-link-reads
 use Rattle.records.proofs.link_offset.Reads as link-offset-reads
 use Rattle.records.proofs.link_at.Reads as link-at-reads
 

@@ -1,12 +1,12 @@
--- `assembly::building::place_link` meets its contract. Assumes nothing.
+-- `link_rows::place_link` meets its contract. Assumes nothing.
 use Rattle.numbering.proofs.Rows.{row-below}
-use Rattle.assembly.proofs.Built.{placed}
+use Rattle.link_rows.proofs.Laws.{placed}
 use borrow.Author.Needs.{needs}
 use mathlib.Core.Path.{_∙_}
-use Rattle.assembly.proofs.building.place_link.Statement.{statement}
-use Rattle.assembly.proofs.building.place_link.Tie as tie
-use Rattle.assembly.proofs.building.place_link.Reads as reads
-use Rattle.assembly.proofs.building.place_link.Lts as lts
+use Rattle.link_rows.proofs.place_link.Statement.{statement}
+use Rattle.link_rows.proofs.place_link.Tie as tie
+use Rattle.link_rows.proofs.place_link.Reads as reads
+use Rattle.link_rows.proofs.place_link.Lts as lts
 use Rattle.nodes.proofs.is_fixed.Reads as is-fixed-reads
 use Rattle.numbering.proofs.unknown_of.Reads as unknown-of-reads
 use Rattle.scatter.proofs.link_into_matrix.Reads as link-into-matrix-reads

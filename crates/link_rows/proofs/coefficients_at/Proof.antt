@@ -1,10 +1,10 @@
--- `assembly::building::coefficients_at` meets its contract. Assumes nothing.
-use Rattle.assembly.proofs.Built.{coefficients-of}
+-- `link_rows::coefficients_at` meets its contract. Assumes nothing.
+use Rattle.link_rows.proofs.Laws.{coefficients-of}
 use borrow.Author.Needs.{needs}
-use Rattle.assembly.proofs.building.coefficients_at.Statement.{statement}
-use Rattle.assembly.proofs.building.coefficients_at.Tie as tie
-use Rattle.assembly.proofs.building.coefficients_at.Reads as reads
-use Rattle.assembly.proofs.building.coefficients_at.Lts as lts
+use Rattle.link_rows.proofs.coefficients_at.Statement.{statement}
+use Rattle.link_rows.proofs.coefficients_at.Tie as tie
+use Rattle.link_rows.proofs.coefficients_at.Reads as reads
+use Rattle.link_rows.proofs.coefficients_at.Lts as lts
 use Rattle.nodes.proofs.elevation.Reads as elevation-reads
 use Rattle.model.proofs.coefficients.Reads as coefficients-reads
 use Rattle.codes.proofs.status_of.Reads as status-of-reads

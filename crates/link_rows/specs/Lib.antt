@@ -1,0 +1,2 @@
+-- The specs of `link_rows`.
+pub mod Links
