@@ -38,9 +38,9 @@ def call(*words):
 def library():
     if platform.machine() == "x86_64":
         call("rt", "staticlib", "desk")
-        return "target/staticlib/libdesk.a"
+        return "target/staticlib/libdesk.a", "the proved library as it ships"
     call("../shared/tools/native_lib", "desk")
-    return "target/native/libdesk.a"
+    return "target/native/libdesk.a", "native_lib: the proved library's LLVM module compiled for this processor"
 
 
 def ours(files):
@@ -63,7 +63,8 @@ def main(rounds):
         if status:
             sys.exit(text)
     os.makedirs(os.path.join(ROOT, "target", "bench"), exist_ok=True)
-    call("gcc", "-O2", "-o", "target/bench/solves", "bench/solves.c", library())
+    archive, origin = library()
+    call("gcc", "-O2", "-o", "target/bench/solves", "bench/solves.c", archive)
     folder = os.path.join(ROOT, "target", "bench", "sheets")
     bench_sheets.main(folder)
     files = sorted(os.path.join(folder, name) for name in os.listdir(folder))
@@ -74,6 +75,7 @@ def main(rounds):
         for build in BUILDS:
             others[build].append(theirs(build, files))
     print(said)
+    print("proved: " + origin)
     print("%d rounds of %d solves, microseconds, medians" % (rounds, SOLVES))
     print("| sheet | nodes | links | trials | proved | recipe | plain | proved / recipe | proved / plain |")
     print("|---|---|---|---|---|---|---|---|---|")
