@@ -1,4 +1,4 @@
-"""docs/PROMISES.md names every public function and every must-fail edit, and no edit that is not there."""
+"""docs/PROMISES.md names every public function and every must-fail edit, and what it names is there."""
 import glob
 import os
 import re
@@ -44,6 +44,15 @@ class Rows(unittest.TestCase):
         self.assertGreater(len(edits), 200)
         words = set(re.findall(r"\w+", self.paper))
         self.assertEqual(sorted(edit for edit in edits if edit not in words), [])
+
+    def test_every_file_is_there_with_what_is_named_beside_it(self):
+        files = re.findall(r"\b(\w+/(?:specs|proofs|src)/[\w/+]+\.(?:antt|rt))((?:,? `[^`]+`)*)", self.paper)
+        self.assertGreater(len(files), 60)
+        for path, names in files:
+            self.assertTrue(os.path.exists(os.path.join(ROOT, "crates", path)), path)
+            text = read("crates", path)
+            for name in re.findall(r"`([^` ]+)[^`]*`", names):
+                self.assertRegex(text, r"(?<![\w·-])%s(?![\w-])" % re.escape(name), path)
 
     def test_every_library_but_the_bare_has_edits(self):
         bare = {"constants", "nearest"}  # definitions and one theorem each, with one edit
