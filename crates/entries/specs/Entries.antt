@@ -1,7 +1,6 @@
--- The trial record: an entry a trial, four bytes each; what the answer counts of it; and what follows an entry. Definitions only.
-use Prim.Native.Nat.{ℕ, suc, _+_, _*_, _/_, _%_}
+-- What the answer counts of the trial record, and what follows an entry. Definitions only.
+use Prim.Native.Nat.{_+_}
 use mathlib.Core.List.{List, [], _∷_}
-use lib.ListN.{set}
 use lib.Ieee.{inf}
 use mathlib.Core.Bool.{false}
 use Rattle.constants.specs.Constants as constant
@@ -12,7 +11,6 @@ use Rattle.entries.specs.declared.Ended.{Ended}
 use Rattle.entries.specs.declared.Ended.the-variants.{Balanced, Failed, Strayed, Limit}
 use Rattle.entries.specs.declared.Going.{Going}
 use Rattle.entries.specs.declared.Going.the-variants.{On, Over}
-use Rattle.entries.specs.declared.Mark.{Mark}
 use Rattle.entries.specs.declared.Tally.{Tally}
 
 -- damping starts at factor 1 with the previous change infinite
@@ -27,25 +25,6 @@ goingOf d (Singular i) = Over (Failed i)
 goingOf d (Wild p) = Over (Strayed p)
 goingOf d (Stepped next) = On next
 goingOf d Converged = Over Balanced
-
--- the mark and the number of an entry: VF, GN, SG, NF, ST, OK
-unfoldable pub markOf : Entry → Mark
-markOf (Freed i) = record { 0 = 86; 1 = 70; 2 = i .0 }
-markOf (Grounded i) = record { 0 = 71; 1 = 78; 2 = i .0 }
-markOf (Singular i) = record { 0 = 83; 1 = 71; 2 = i .0 }
-markOf (Wild p) = record { 0 = 78; 1 = 70; 2 = p }
-markOf (Stepped next) = record { 0 = 83; 1 = 84; 2 = 0 }
-markOf Converged = record { 0 = 79; 1 = 75; 2 = 0 }
-
--- a record with a mark and its number, the lower byte first, as its ith entry
-unfoldable pub putOf : List ℕ → ℕ → Mark → List ℕ
-putOf r i m = set (set (set (set r (4 * i) (m .0)) (4 * i + 1) (m .1)) (4 * i + 2) (m .2 % 256)) (4 * i + 3) (m .2 / 256 % 256)
-
--- with these entries from the ith on
-unfoldable pub written : ℕ → List Entry → List ℕ → List ℕ
-unfolding putOf markOf
-written i [] r = r
-written i (e ∷ es) r = written (suc i) es (putOf r i (markOf e))
 
 -- trials, freed valves and grounded nodes, with one entry more
 unfoldable pub counted : Tally → Entry → Tally

@@ -20,7 +20,8 @@ use Rattle.state.specs.State.{State}
 use Rattle.balance.specs.Balance.{settledOf}
 use Rattle.balance.proofs.Kept.{settled-long}
 use Rattle.trial.specs.Trial.{Room, repairOf}
-use Rattle.entries.specs.Entries.{none, written, tallied}
+use Rattle.entries.specs.Entries.{none, tallied}
+use Rattle.marks.specs.Marks.{written}
 use Rattle.entries.specs.declared.Ended.{Ended}
 use Rattle.entries.specs.declared.Ended.the-variants.{Balanced, Failed, Strayed, Limit}
 use Rattle.entries.specs.declared.Tally.{Tally}

@@ -30,7 +30,8 @@ use Rattle.repair.specs.declared.Damping.{Damping}
 use Rattle.repair.specs.declared.Entry.{Entry}
 use Rattle.repair.specs.declared.Entry.the-variants.{Freed, Grounded, Singular, Wild, Stepped, Converged}
 use Rattle.trial.specs.Trial.{Outcome, repairOf}
-use Rattle.entries.specs.Entries.{goingOf, none, written, tallied}
+use Rattle.entries.specs.Entries.{goingOf, none, tallied}
+use Rattle.marks.specs.Marks.{written}
 use Rattle.entries.specs.declared.Ended.{Ended}
 use Rattle.entries.specs.declared.Ended.the-variants.{Balanced, Failed, Strayed, Limit}
 use Rattle.entries.specs.declared.Going.{Going}

@@ -25,12 +25,13 @@ use Rattle.repair.specs.declared.Damping.{Damping}
 use Rattle.repair.specs.declared.Entry.{Entry}
 use Rattle.repair.specs.declared.Entry.the-variants.{Freed, Grounded, Singular, Wild, Stepped, Converged}
 use Rattle.trial.specs.Trial.{repairOf, judged, verdict, stepOf, trialOf}
-use Rattle.entries.specs.Entries.{markOf, putOf, written, counted, tallied, none}
+use Rattle.entries.specs.Entries.{counted, tallied, none}
+use Rattle.marks.specs.Marks.{markOf, putOf, written}
 use Rattle.entries.specs.declared.Ended.{Ended}
 use Rattle.entries.specs.declared.Ended.the-variants.{Balanced, Failed, Strayed, Limit}
-use Rattle.entries.specs.declared.Mark.{Mark}
+use Rattle.marks.specs.declared.Mark.{Mark}
 use Rattle.entries.specs.declared.Tally.{Tally}
-use Rattle.entries.proofs.Laws.{put-long}
+use Rattle.marks.proofs.Laws.{put-long}
 use Rattle.runs.proofs.Laws.{tallied-trials, run-length}
 use Rattle.answers.specs.Answers.{Lent, failedOf, refusedOf}
 use Rattle.conclusion.specs.Conclusion.{unsolved, delivered, told}

@@ -43,7 +43,8 @@ use Rattle.sheet.specs.declared.reading.Net.{Net}
 use lib.ListN.{length}
 use Rattle.columns.specs.Columns.{copied}
 use Rattle.balance.specs.Balance.{demandOf, suppliedBy, supplyOf, balanceOf, settledOf}
-use Rattle.entries.specs.Entries.{markOf, putOf, written, tallied}
+use Rattle.entries.specs.Entries.{tallied}
+use Rattle.marks.specs.Marks.{markOf, putOf, written}
 use Rattle.entries.specs.Entries as entry
 use Rattle.runs.specs.Run.{finish}
 use Rattle.answers.specs.Answers.{Solved, shortOf}

@@ -11,7 +11,8 @@ use Rattle.sheet.specs.declared.reading.Net.{Net}
 use Rattle.sheet.specs.declared.reading.Reading.{Reading}
 use Rattle.sheet.specs.declared.reading.Reading.the-variants.{Good, Refused}
 use Rattle.trial.specs.Trial.{Repair, repairOf}
-use Rattle.entries.specs.Entries.{none, written, tallied}
+use Rattle.entries.specs.Entries.{none, tallied}
+use Rattle.marks.specs.Marks.{written}
 use Rattle.runs.specs.Run.{finish}
 use Rattle.answers.specs.Answers.{Lent, Solved, Enough, refusedOf}
 use Rattle.conclusion.specs.Conclusion.{told}

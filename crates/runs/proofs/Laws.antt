@@ -12,12 +12,13 @@ use Rattle.repair.specs.declared.Entry.{Entry}
 use Rattle.repair.specs.declared.Entry.the-variants.{Freed, Grounded, Singular, Wild, Stepped, Converged}
 use Rattle.state.specs.State.{State}
 use Rattle.trial.specs.Trial.{Room, Outcome, outcome, Repair, trialWith}
-use Rattle.entries.specs.Entries.{goingOf, markOf, putOf, written, counted, tallied}
+use Rattle.entries.specs.Entries.{goingOf, counted, tallied}
+use Rattle.marks.specs.Marks.{markOf, putOf, written}
 use Rattle.entries.specs.declared.Ended.{Ended}
 use Rattle.entries.specs.declared.Ended.the-variants.{Limit}
 use Rattle.entries.specs.declared.Going.{Going}
 use Rattle.entries.specs.declared.Going.the-variants.{On, Over}
-use Rattle.entries.specs.declared.Mark.{Mark}
+use Rattle.marks.specs.declared.Mark.{Mark}
 use Rattle.entries.specs.declared.Tally.{Tally}
 use Rattle.runs.specs.Run.{after, runWith, finish}
 

@@ -5,7 +5,8 @@ use Rattle.repair.specs.declared.Damping.{Damping}
 use Rattle.repair.specs.declared.Entry.{Entry}
 use Rattle.state.specs.State.{State}
 use Rattle.trial.specs.Trial.{Outcome, Repair, trialWith}
-use Rattle.entries.specs.Entries.{goingOf, written, tallied}
+use Rattle.entries.specs.Entries.{goingOf, tallied}
+use Rattle.marks.specs.Marks.{written}
 use Rattle.entries.specs.declared.Ended.{Ended}
 use Rattle.entries.specs.declared.Ended.the-variants.{Limit}
 use Rattle.entries.specs.declared.Going.{Going}

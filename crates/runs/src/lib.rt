@@ -16,8 +16,8 @@ use entries::Tally;
 use entries::count;
 use entries::damping_start;
 use entries::go;
-use entries::marked;
-use entries::put;
+use marks::marked;
+use marks::put;
 
 pub struct Ran {
     pub ended: Ended,

@@ -1,8 +1,8 @@
--- `entries::marked` meets its contract. Assumes nothing.
+-- `marks::marked` meets its contract. Assumes nothing.
 use borrow.Author.Needs.{needs}
-use Rattle.entries.specs.Entries.{markOf}
-use Rattle.entries.proofs.marked.Statement.{statement}
-use Rattle.entries.proofs.marked.Tie as tie
+use Rattle.marks.specs.Marks.{markOf}
+use Rattle.marks.proofs.marked.Statement.{statement}
+use Rattle.marks.proofs.marked.Tie as tie
 
 returns : tie.Need-returns
 unfolding markOf

@@ -1,10 +1,10 @@
--- `entries::put` meets its contract. Assumes nothing.
+-- `marks::put` meets its contract. Assumes nothing.
 use native.Mathlib.Omega.{arith}
 use lib.ListN.{length-set}
 use borrow.Author.Needs.{needs}
-use Rattle.entries.specs.Entries.{putOf}
-use Rattle.entries.proofs.put.Statement.{statement}
-use Rattle.entries.proofs.put.Tie as tie
+use Rattle.marks.specs.Marks.{putOf}
+use Rattle.marks.proofs.put.Statement.{statement}
+use Rattle.marks.proofs.put.Tie as tie
 
 slice-write-entries-2 : tie.Need-slice-write-entries-2
 slice-write-entries-2 c = simp length-set (omega arith)
