@@ -45,6 +45,16 @@ class Rows(unittest.TestCase):
         words = set(re.findall(r"\w+", self.paper))
         self.assertEqual(sorted(edit for edit in edits if edit not in words), [])
 
+    def test_every_edit_that_is_named_is_there(self):
+        edits = {os.path.basename(path)[:-len(".edit")] for path in glob.glob(os.path.join(ROOT, "crates", "*", "must-fail", "*.edit"))}
+        named = []
+        for part in self.paper.split("| must-fail |")[1:]:
+            rows = [line for line in part.split("\n\n")[0].splitlines()[1:] if line.startswith("| ")]
+            last = 2 if part.startswith(" test |") else 1
+            named += [word for row in rows for word in re.findall(r"\w+_\w+", re.split(r"(?<!\\)\|", row)[-1 - last])]
+        self.assertGreater(len(named), 200)
+        self.assertEqual(sorted(set(named) - edits), [])
+
     def test_every_file_is_there_with_what_is_named_beside_it(self):
         files = re.findall(r"\b(\w+/(?:specs|proofs|src)/[\w/+]+\.(?:antt|rt))((?:,? `[^`]+`)*)", self.paper)
         self.assertGreater(len(files), 60)
