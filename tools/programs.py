@@ -12,12 +12,21 @@ def path(name):
     return os.path.join(ROOT, "target", "bin", name)
 
 
-def toolchain():
+def kit():
+    """The kit's folder, as `rt` finds it."""
     found = shutil.which("rt")
     if found is None:
         raise FileNotFoundError("rt, the kit's command, is not on the path")
-    home = os.environ.get("RATTLE_HOME") or os.path.dirname(os.path.dirname(os.path.realpath(found)))
-    return os.path.join(home, "on", platform.machine(), "toolchain")
+    return os.environ.get("RATTLE_HOME") or os.path.dirname(os.path.dirname(os.path.realpath(found)))
+
+
+def own():
+    """What the kit has for this processor."""
+    return os.path.join(kit(), "on", platform.machine())
+
+
+def toolchain():
+    return os.path.join(own(), "toolchain")
 
 
 def by_loader(program):

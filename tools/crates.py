@@ -1,0 +1,21 @@
+"""The crates that crates.txt lists, and which stands on which."""
+
+
+def listed(text):
+    """Each crate with the text behind its colon, as written: the words in it are what the crate stands on."""
+    found = {}
+    for line in text.splitlines():
+        name, colon, below = line.split("#")[0].partition(":")
+        if colon:
+            found[name.strip()] = below
+    return found
+
+
+def below(crates, name):
+    """The listed crates that this one reaches."""
+    found, todo = [], [name]
+    while todo:
+        new = [word for word in crates[todo.pop()].split() if word in crates and word not in found]
+        found += new
+        todo += new
+    return found
