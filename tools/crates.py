@@ -19,3 +19,8 @@ def below(crates, name):
         found += new
         todo += new
     return found
+
+
+def above(crates, names):
+    """The listed crates that stand on one of these, and are none of them."""
+    return [name for name in crates if name not in names and any(word in names for word in below(crates, name))]
