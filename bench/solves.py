@@ -43,8 +43,16 @@ def library():
     return "target/native/libdesk.a", "native_lib: the proved library's LLVM module compiled for this processor"
 
 
-def ours(files):
-    lines = [line.split() for line in call("target/bench/solves", str(SOLVES), *files).splitlines()]
+def sheets():
+    """The bench's sheets, made anew, smaller schemes first."""
+    folder = os.path.join(ROOT, "target", "bench", "sheets")
+    bench_sheets.main(folder)
+    files = sorted(os.path.join(folder, name) for name in os.listdir(folder))
+    return sorted(files, key=lambda file: (file[-8:], file))
+
+
+def ours(files, program="target/bench/solves"):
+    lines = [line.split() for line in call(program, str(SOLVES), *files).splitlines()]
     return {name: (int(number), int(trials), float(median)) for name, number, trials, median, _ in lines}
 
 
@@ -65,10 +73,7 @@ def main(rounds):
     os.makedirs(os.path.join(ROOT, "target", "bench"), exist_ok=True)
     archive, origin = library()
     call("gcc", "-O2", "-o", "target/bench/solves", "bench/solves.c", archive)
-    folder = os.path.join(ROOT, "target", "bench", "sheets")
-    bench_sheets.main(folder)
-    files = sorted(os.path.join(folder, name) for name in os.listdir(folder))
-    files.sort(key=lambda file: (file[-8:], file))
+    files = sheets()
     proved, others = [], {build: [] for build in BUILDS}
     for _ in range(rounds):
         proved.append(ours(files))

@@ -14,49 +14,55 @@ use lib.Count.{trailingZeros}
 use borrow.Author.Tests.{eqb-true, leb-true}
 use Rattle.float.specs.Sign.{absOf}
 use Rattle.patterns.specs.Bytes.{fromBytes}
-use Rattle.records.specs.Offsets.{nodeOffset, linkOffset}
-use Rattle.sheet.specs.Layout.{hasOptions, nodesOf, linksOf, endOf}
-use Rattle.records.specs.Records.{byteAt, shortAt}
+use Rattle.layout.specs.Places.{Laid, nodePlace, linkPlace}
+use Rattle.links.specs.Links.{EndsIn}
+use Rattle.nodes.specs.Nodes.{inService, serving}
+use Rattle.sheet.specs.Scan.{readable, hasOptions, layoutOf, endOf}
+use Rattle.records.specs.Records.{byteAt, pairAt}
 use Rattle.fields.specs.Fields.{null, baseBounds, within, allWithin, optionsGood, nodeGood, linkCodes, linkNumbers, linkGood}
-use Rattle.ends.specs.Ends.{EndsBelow, endsGood}
-use Rattle.sheet.specs.Read.{firstBad, badNode, badLink, badField, badEnds, unless, checked, counted, readWith}
+use Rattle.ends.specs.Ends.{endsGood}
+use Rattle.sheet.specs.Read.{firstBad, badNode, badLink, badField, badEnds, unless, withUnknowns, checked, afterScan, readWith}
 use Rattle.accepted.specs.Accepted.{Accepted, none, causeOf, numberIn}
 use Rattle.fields.specs.declared.fields.Bounds.{Bounds}
 use Rattle.refusals.specs.Refusals.{numberOf}
-use Rattle.sheet.specs.declared.layout.Found.{Found}
-use Rattle.sheet.specs.declared.layout.Found.the-variants.{At, Nothing}
-use Rattle.sheet.specs.declared.reading.Net.{Net}
+use Rattle.found.specs.declared.Found.{Found}
+use Rattle.found.specs.declared.Found.the-variants.{At, Nothing}
+use Rattle.layout.specs.declared.places.Layout.{Layout}
 use Rattle.sheet.specs.declared.reading.Reading.the-variants.{Good, Refused}
 use Rattle.refusals.specs.declared.refusals.Refusal.the-variants.{Unreadable, NodeCount, LinkCount, Field, Ends}
 use Rattle.sheet.proofs.Laws.{and-left, and-right}
-use Rattle.sheet.proofs.Readings.{no-field, field-link, checked-good, right-counts, whole, each-node, each-link, each-ends, ends-below}
+use Rattle.sheet.proofs.Readings.{no-field, field-link, checked-good, right-counts, whole, each-node, each-link, each-ends, ends-in, laid-of, options-fit}
 
 -- ---- each number has its one cause
 
 module _ (b : Bounds) (s : List ℕ) where
-  checked-cause : (n k : ℕ) → numberIn (checked b n k s) ≡ cond {A = ℕ} (none (badField b n k s)) (cond {A = ℕ} (none (badEnds n k s)) 0 4) 3
+  checked-cause : (l : Layout) → numberIn (checked b l s) ≡ cond {A = ℕ} (none (badField b l s)) (cond {A = ℕ} (none (badEnds l s)) 0 4) 3
   unfolding checked numberOf
-  checked-cause n k = go (badField b n k s) (badEnds n k s)
+  checked-cause l = go (badField b l s) (badEnds l s)
     where
-      go : (f e : Found) → numberIn (unless f Field (unless e Ends (Good (record { nodes = n; links = k })))) ≡ cond {A = ℕ} (none f) (cond {A = ℕ} (none e) 0 4) 3
+      go : (f e : Found) → numberIn (unless f Field (unless e Ends (Good (withUnknowns s l)))) ≡ cond {A = ℕ} (none f) (cond {A = ℕ} (none e) 0 4) 3
       go (At p) e = refl
       go Nothing (At p) = refl
       go Nothing Nothing = refl
 
-  counted-cause : (n k : ℕ) → numberIn (counted b n k s) ≡ cond {A = ℕ} (leb 1 n && leb n (b .nodes) && leb k (b .links)) (numberIn (checked b n k s)) 2
-  unfolding counted numberOf
-  counted-cause n k = go (leb 1 n && leb n (b .nodes)) (leb k (b .links))
+  scan-cause : (l : Layout) → numberIn (afterScan b l s) ≡ cond {A = ℕ} (leb 1 (l .nodes) && leb (l .nodes) (b .nodes) && leb (l .links) (b .links)) (numberIn (checked b l s)) 2
+  unfolding afterScan numberOf
+  scan-cause l = go (leb 1 (l .nodes) && leb (l .nodes) (b .nodes)) (leb (l .links) (b .links))
     where
-      go : (f e : Bool) → numberIn (cond f (cond e (checked b n k s) (Refused LinkCount)) (Refused NodeCount)) ≡ cond {A = ℕ} (f && e) (numberIn (checked b n k s)) 2
+      go : (f e : Bool) → numberIn (cond f (cond e (checked b l s) (Refused LinkCount)) (Refused NodeCount)) ≡ cond {A = ℕ} (f && e) (numberIn (checked b l s)) 2
       go true true = refl
       go true false = refl
       go false e = refl
 
   pub cause : numberIn (readWith b s) ≡ causeOf b s
   unfolding readWith causeOf numberOf
-  cause = go (hasOptions s) (eqb (endOf s) (length s)) ∙ ap (λ (m : ℕ). cond {A = ℕ} (hasOptions s && eqb (endOf s) (length s)) m 1) (counted-cause (nodesOf s) (linksOf s) ∙ ap (λ (m : ℕ). cond {A = ℕ} (leb 1 (nodesOf s) && leb (nodesOf s) (b .nodes) && leb (linksOf s) (b .links)) m 2) (checked-cause (nodesOf s) (linksOf s)))
+  cause =
+      let l : Layout = layoutOf s in
+      go (hasOptions s) (eqb (endOf s) (length s))
+      ∙ ap (λ (m : ℕ). cond {A = ℕ} (hasOptions s && eqb (endOf s) (length s)) m 1)
+      (scan-cause l ∙ ap (λ (m : ℕ). cond {A = ℕ} (leb 1 (l .nodes) && leb (l .nodes) (b .nodes) && leb (l .links) (b .links)) m 2) (checked-cause l))
     where
-      go : (f e : Bool) → numberIn (cond f (cond e (counted b (nodesOf s) (linksOf s) s) (Refused (Unreadable (endOf s)))) (Refused (Unreadable 0))) ≡ cond {A = ℕ} (f && e) (numberIn (counted b (nodesOf s) (linksOf s) s)) 1
+      go : (f e : Bool) → numberIn (cond f (cond e (afterScan b (layoutOf s) s) (Refused (Unreadable (endOf s)))) (Refused (Unreadable 0))) ≡ cond {A = ℕ} (f && e) (numberIn (afterScan b (layoutOf s) s)) 1
       go true true = refl
       go true false = refl
       go false e = refl
@@ -70,95 +76,107 @@ all-pass good size (suc k) at h =
     let p : at + size * 0 ≡ at = omega (arith, mul-zero size) in
     rw (subst (λ (m : ℕ). good m ≡ true) p (h 0 (omega arith))) (all-pass good size k (at + size) (λ i l. let q : at + size * suc i ≡ at + size + size * i = omega (arith, mul-suc size i) in subst (λ (m : ℕ). good m ≡ true) q (h (suc i) (omega arith))))
 
-module _ (b : Bounds) (s : List ℕ) (n k : ℕ) where
+module _ (b : Bounds) (s : List ℕ) (l : Layout) where
   -- none of the three searches finds a fault
-  no-bad-node : ((i : ℕ) → i < n → nodeGood b s (nodeOffset i) ≡ true) → badNode b n s ≡ Nothing
+  no-bad-node : ((i : ℕ) → i < l .nodes → nodeGood b s (nodePlace l i) ≡ true) → badNode b l s ≡ Nothing
   unfolding badNode
-  no-bad-node h = all-pass (nodeGood b s) 45 n 29 h
+  no-bad-node h = all-pass (nodeGood b s) 45 (l .nodes) (l .node0) h
 
-  at-link : (good : ℕ → Bool) → ((i : ℕ) → i < k → good (linkOffset n i) ≡ true) → (i : ℕ) → i < k → good (linkOffset n 0 + 49 * i) ≡ true
-  at-link good h i l =
-      let q : linkOffset n i ≡ linkOffset n 0 + 49 * i = omega arith in
-      subst (λ (m : ℕ). good m ≡ true) q (h i l)
+  no-bad-link : ((j : ℕ) → j < l .links → linkGood b (l .nodes) s (linkPlace l j) ≡ true) → badLink b l s ≡ Nothing
+  unfolding badLink linkPlace
+  no-bad-link h = all-pass (linkGood b (l .nodes) s) (l .stride) (l .links) (l .link0) h
 
-  no-bad-link : ((i : ℕ) → i < k → linkGood b n s (linkOffset n i) ≡ true) → badLink b n k s ≡ Nothing
-  unfolding badLink
-  no-bad-link h = all-pass (linkGood b n s) 49 k (linkOffset n 0) (at-link (linkGood b n s) h)
+  no-bad-ends : ((j : ℕ) → j < l .links → endsGood l s (linkPlace l j) ≡ true) → badEnds l s ≡ Nothing
+  unfolding badEnds linkPlace
+  no-bad-ends h = all-pass (endsGood l s) (l .stride) (l .links) (l .link0) h
 
-  no-bad-ends : ((i : ℕ) → i < k → endsGood s (linkOffset n i) ≡ true) → badEnds n k s ≡ Nothing
-  unfolding badEnds
-  no-bad-ends h = all-pass (endsGood s) 49 k (linkOffset n 0) (at-link (endsGood s) h)
+-- counting the unknowns moves nothing else of a layout
+module _ (s : List ℕ) (l : Layout) where
+  place-same : (j : ℕ) → linkPlace (withUnknowns s l) j ≡ linkPlace l j
+  unfolding withUnknowns linkPlace
+  place-same j = refl
 
-  end-is : nodesOf s ≡ n → linksOf s ≡ k → endOf s ≡ linkOffset n k
-  unfolding endOf
-  end-is p q = ap (λ (m : ℕ). linkOffset m (linksOf s)) p ∙ ap (linkOffset n) q
+  ends-same : (at : ℕ) → endsGood (withUnknowns s l) s at ≡ endsGood l s at
+  unfolding withUnknowns endsGood inService
+  ends-same at = refl
 
-  pub accepted : Accepted b s n k → readWith b s ≡ Good (record { nodes = n; links = k })
-  accepted a =
-      whole b s (a .first) (end-is (a .nodes) (a .links) ∙ a .whole)
-      ∙ ap (λ (m : ℕ). counted b m (linksOf s) s) (a .nodes)
-      ∙ ap (λ (m : ℕ). counted b n m s) (a .links)
-      ∙ right-counts b n k s (a .some) (a .few-nodes) (a .few-links)
-      ∙ checked-good b n k s
-      (field-link b n k s (a .options) (no-bad-node (a .each-node)) ∙ no-bad-link (a .each-link))
-      (no-bad-ends (a .each-ends))
+  serving-same : (i : ℕ) → serving s (withUnknowns s l) i ≡ serving s l i
+  unfolding withUnknowns serving inService
+  serving-same zero = refl
+  serving-same (suc i) = rw (serving-same i)
+
+  pub unknowns-same : withUnknowns s l .unknowns ≡ serving s (withUnknowns s l) (withUnknowns s l .nodes)
+  unfolding withUnknowns
+  unknowns-same = sym (serving-same (l .nodes))
+
+module _ (b : Bounds) (s : List ℕ) where
+  accepted-here : Accepted b s (withUnknowns s (layoutOf s)) → readWith b s ≡ Good (withUnknowns s (layoutOf s))
+  unfolding endOf withUnknowns linkPlace
+  accepted-here a =
+      let l : Layout = layoutOf s in
+      whole b s (a .first) (a .whole)
+      ∙ right-counts b l s (a .some) (a .few-nodes) (a .few-links)
+      ∙ checked-good b l s (field-link b l s (a .options) (no-bad-node b s l (a .each-node)) ∙ no-bad-link b s l (a .each-link)) (no-bad-ends b s l (λ j h. sym (ends-same s l (linkPlace l j)) ∙ a .each-ends j h))
+
+  pub accepted : (l : Layout) → Accepted b s l → readWith b s ≡ Good l
+  accepted l a = subst (λ (k : Layout). Accepted b s k → readWith b s ≡ Good k) (sym (a .laid)) accepted-here a
 
 -- ---- and back: what a reading of Good says of each search
 
-good-checked : (b : Bounds) (n k m l : ℕ) (s : List ℕ) → checked b n k s ≡ Good (record { nodes = m; links = l }) → (badField b n k s ≡ Nothing) × (badEnds n k s ≡ Nothing) × (n ≡ m) × (k ≡ l)
+good-checked : (b : Bounds) (l k : Layout) (s : List ℕ) → checked b l s ≡ Good k → (badField b l s ≡ Nothing) × (badEnds l s ≡ Nothing) × (withUnknowns s l ≡ k)
 unfolding checked
-good-checked b n k m l s h = go (badField b n k s) refl (badEnds n k s) refl h
+good-checked b l k s h = go (badField b l s) refl (badEnds l s) refl h
   where
-    go : (f : Found) → badField b n k s ≡ f → (e : Found) → badEnds n k s ≡ e → unless f Field (unless e Ends (Good (record { nodes = n; links = k }))) ≡ Good (record { nodes = m; links = l }) → (badField b n k s ≡ Nothing) × (badEnds n k s ≡ Nothing) × (n ≡ m) × (k ≡ l)
+    go : (f : Found) → badField b l s ≡ f → (e : Found) → badEnds l s ≡ e → unless f Field (unless e Ends (Good (withUnknowns s l))) ≡ Good k → (badField b l s ≡ Nothing) × (badEnds l s ≡ Nothing) × (withUnknowns s l ≡ k)
     go (At p) pf e pe q = absurd (let z : _≡_ {A = ℕ} 0 1 = cc in omega arith)
     go Nothing pf (At p) pe q = absurd (let z : _≡_ {A = ℕ} 0 1 = cc in omega arith)
-    go Nothing pf Nothing pe q =
-        let same : _≡_ {A = Net} (record { nodes = n; links = k }) (record { nodes = m; links = l }) = cc in
-        (pf, pe, ap (λ (x : Net). x .nodes) same, ap (λ (x : Net). x .links) same)
+    go Nothing pf Nothing pe q = let same : withUnknowns s l ≡ k = cc in (pf, pe, same)
 
-good-counted : (b : Bounds) (n k m l : ℕ) (s : List ℕ) → counted b n k s ≡ Good (record { nodes = m; links = l }) → (1 ≤ n) × (n ≤ b .nodes) × (k ≤ b .links) × (checked b n k s ≡ Good (record { nodes = m; links = l }))
-unfolding counted
-good-counted b n k m l s h = go (leb 1 n) refl (leb n (b .nodes)) refl (leb k (b .links)) refl h
+good-counts : (b : Bounds) (l k : Layout) (s : List ℕ) → afterScan b l s ≡ Good k → (1 ≤ l .nodes) × (l .nodes ≤ b .nodes) × (l .links ≤ b .links) × (checked b l s ≡ Good k)
+unfolding afterScan
+good-counts b l k s h = go (leb 1 (l .nodes)) refl (leb (l .nodes) (b .nodes)) refl (leb (l .links) (b .links)) refl h
   where
-    go : (x : Bool) → leb 1 n ≡ x → (y : Bool) → leb n (b .nodes) ≡ y → (z : Bool) → leb k (b .links) ≡ z → cond (x && y) (cond z (checked b n k s) (Refused LinkCount)) (Refused NodeCount) ≡ Good (record { nodes = m; links = l }) → (1 ≤ n) × (n ≤ b .nodes) × (k ≤ b .links) × (checked b n k s ≡ Good (record { nodes = m; links = l }))
+    go : (x : Bool) → leb 1 (l .nodes) ≡ x → (y : Bool) → leb (l .nodes) (b .nodes) ≡ y → (z : Bool) → leb (l .links) (b .links) ≡ z → cond (x && y) (cond z (checked b l s) (Refused LinkCount)) (Refused NodeCount) ≡ Good k → (1 ≤ l .nodes) × (l .nodes ≤ b .nodes) × (l .links ≤ b .links) × (checked b l s ≡ Good k)
     go false px y py z pz q = absurd (let w : _≡_ {A = ℕ} 0 1 = cc in omega arith)
     go true px false py z pz q = absurd (let w : _≡_ {A = ℕ} 0 1 = cc in omega arith)
     go true px true py false pz q = absurd (let w : _≡_ {A = ℕ} 0 1 = cc in omega arith)
-    go true px true py true pz q = (leb-true 1 n px, leb-true n (b .nodes) py, leb-true k (b .links) pz, q)
+    go true px true py true pz q = (leb-true 1 (l .nodes) px, leb-true (l .nodes) (b .nodes) py, leb-true (l .links) (b .links) pz, q)
 
-good-laid : (b : Bounds) (s : List ℕ) (m l : ℕ) → readWith b s ≡ Good (record { nodes = m; links = l }) → (hasOptions s ≡ true) × (endOf s ≡ length s) × (counted b (nodesOf s) (linksOf s) s ≡ Good (record { nodes = m; links = l }))
+good-laid : (b : Bounds) (s : List ℕ) (k : Layout) → readWith b s ≡ Good k → (hasOptions s ≡ true) × (endOf s ≡ length s) × (afterScan b (layoutOf s) s ≡ Good k)
 unfolding readWith
-good-laid b s m l h = go (hasOptions s) refl (eqb (endOf s) (length s)) refl h
+good-laid b s k h = go (hasOptions s) refl (eqb (endOf s) (length s)) refl h
   where
-    go : (x : Bool) → hasOptions s ≡ x → (y : Bool) → eqb (endOf s) (length s) ≡ y → cond x (cond y (counted b (nodesOf s) (linksOf s) s) (Refused (Unreadable (endOf s)))) (Refused (Unreadable 0)) ≡ Good (record { nodes = m; links = l }) → (hasOptions s ≡ true) × (endOf s ≡ length s) × (counted b (nodesOf s) (linksOf s) s ≡ Good (record { nodes = m; links = l }))
+    go : (x : Bool) → hasOptions s ≡ x → (y : Bool) → eqb (endOf s) (length s) ≡ y → cond x (cond y (afterScan b (layoutOf s) s) (Refused (Unreadable (endOf s)))) (Refused (Unreadable 0)) ≡ Good k → (hasOptions s ≡ true) × (endOf s ≡ length s) × (afterScan b (layoutOf s) s ≡ Good k)
     go false px y py q = absurd (let w : _≡_ {A = ℕ} 0 1 = cc in omega arith)
     go true px false py q = absurd (let w : _≡_ {A = ℕ} 0 1 = cc in omega arith)
     go true px true py q = (px, eqb-true (endOf s) (length s) py, q)
 
-pub accepts : (b : Bounds) (s : List ℕ) (n k : ℕ) → readWith b s ≡ Good (record { nodes = n; links = k }) → Accepted b s n k
-accepts b s n k h =
-    let l = good-laid b s n k h in
-    let c = good-counted b (nodesOf s) (linksOf s) n k s (l .2) in
-    let d = good-checked b (nodesOf s) (linksOf s) n k s (c .3) in
-    let en : nodesOf s ≡ n = d .2 in
-    let el : linksOf s ≡ k = d .3 in
-    let f = no-field b (nodesOf s) (linksOf s) s (d .0) in
-    let none-node : badNode b n s ≡ Nothing = subst (λ (m : ℕ). badNode b m s ≡ Nothing) en (f .1) in
-    let none-link : badLink b n k s ≡ Nothing = subst (λ (m : ℕ). badLink b n m s ≡ Nothing) el (subst (λ (m : ℕ). badLink b m (linksOf s) s ≡ Nothing) en (f .2)) in
-    let none-ends : badEnds n k s ≡ Nothing = subst (λ (m : ℕ). badEnds n m s ≡ Nothing) el (subst (λ (m : ℕ). badEnds m (linksOf s) s ≡ Nothing) en (d .1)) in
-    record {
-      first = l .0;
-      nodes = en;
-      links = el;
-      whole = sym (end-is b s n k en el) ∙ l .1;
-      some = omega (arith, c .0);
-      few-nodes = omega (arith, c .1);
-      few-links = omega (arith, c .2);
-      options = f .0;
-      each-node = each-node b n k s none-node;
-      each-link = each-link b n k s none-link;
-      each-ends = each-ends b n k s none-ends;
-    }
+module _ (b : Bounds) (s : List ℕ) where
+  built : hasOptions s ≡ true → endOf s ≡ length s → (1 ≤ layoutOf s .nodes) × (layoutOf s .nodes ≤ b .nodes) × (layoutOf s .links ≤ b .links) → badField b (layoutOf s) s ≡ Nothing → badEnds (layoutOf s) s ≡ Nothing
+      → Accepted b s (withUnknowns s (layoutOf s))
+  unfolding endOf withUnknowns linkPlace
+  built first end counts field ends =
+      let l : Layout = layoutOf s in
+      let f = no-field b l s field in
+      record {
+        first = first;
+        laid = refl;
+        whole = end;
+        some = counts .0;
+        few-nodes = counts .1;
+        few-links = counts .2;
+        options = f .0;
+        each-node = each-node b l s (f .1);
+        each-link = each-link b l s (f .2);
+        each-ends = λ j h. ends-same s l (linkPlace l j) ∙ each-ends b l s ends j h;
+      }
+
+  pub accepts : (l : Layout) → readWith b s ≡ Good l → Accepted b s l
+  accepts l h =
+      let r = good-laid b s l h in
+      let c = good-counts b (layoutOf s) l s (r .2) in
+      let d = good-checked b (layoutOf s) l s (c .3) in
+      subst (Accepted b s) (d .2) (built (r .0) (r .1) (c .0, c .1, c .2) (d .0) (d .1))
 
 -- ---- what the tests say of the floats
 
@@ -199,8 +217,8 @@ options-floats b s h =
     let c = lt null (fromBytes s 2) in
     let d = le null (fromBytes s 10) in
     let e = le null (fromBytes s 18) in
-    let f = leb 1 (shortAt s 26) in
-    let g = leb (shortAt s 26) (b .trials) in
+    let f = leb 1 (pairAt s 26) in
+    let g = leb (pairAt s 26) (b .trials) in
     and-left a c (and-left (a && c) d (and-left (a && c && d) e (and-left (a && c && d && e) f (and-left (a && c && d && e && f) g (and-left (a && c && d && e && f && g) (leb (byteAt s 28) (b .unit)) h)))))
 
 pub node-floats : (b : Bounds) (s : List ℕ) (at : ℕ) → nodeGood b s at ≡ true → allWithin b 5 s (at + 4) ≡ true
@@ -219,17 +237,33 @@ link-floats b n s at h =
     let e = eqb (byteAt s (at + 2)) 0 || le (b .diameter) (fromBytes s (at + 25)) in
     and-left a c (and-left (a && c) d (and-left (a && c && d) e (and-right (linkCodes n s at) (a && c && d && e) h)))
 
-module _ (b : Bounds) (s : List ℕ) (n k : ℕ) (a : Accepted b s n k) (h : T (finite (b .magnitude))) where
+laid-same : (s : List ℕ) → Laid (layoutOf s) s → Laid (withUnknowns s (layoutOf s)) s
+unfolding withUnknowns linkPlace
+laid-same s h = record { options = h .options; nodes = h .nodes; links = h .links; stride = h .stride }
+
+options-is : (s : List ℕ) → hasOptions s ≡ readable 79 80 29 s 0
+unfolding hasOptions
+options-is s = refl
+
+module _ (b : Bounds) (s : List ℕ) (l : Layout) (a : Accepted b s l) where
   -- both ends of every link are below the node count
-  pub ends-are : EndsBelow n k s
-  ends-are = ends-below b n k s (no-bad-link b s n k (a .each-link))
+  pub ends-are : EndsIn l s
+  ends-are = ends-in b l s (no-bad-link b s l (a .each-link))
+
+  -- the sheet is as long as its layout asks, and its unknowns are the junctions in service
+  pub laid-are : Laid l s
+  laid-are = subst (λ (k : Layout). Laid k s) (sym (a .laid)) (laid-same s (laid-of s (options-fit s (hasOptions s) (options-is s) (a .first))))
+
+  pub unknowns-are : l .unknowns ≡ serving s l (l .nodes)
+  unknowns-are = subst (λ (k : Layout). k .unknowns ≡ serving s k (k .nodes)) (sym (a .laid)) (unknowns-same s (layoutOf s))
 
   -- every float is finite
-  pub options-finite : (j : ℕ) → j < 3 → T (finite (fromBytes s (2 + 8 * j)))
-  options-finite j l = within-finite b _ h (each-within b 3 s 2 (options-floats b s (a .options)) j l)
+  module _ (h : T (finite (b .magnitude))) where
+    pub options-finite : (j : ℕ) → j < 3 → T (finite (fromBytes s (2 + 8 * j)))
+    options-finite j m = within-finite b _ h (each-within b 3 s 2 (options-floats b s (a .options)) j m)
 
-  pub node-finite : (i : ℕ) → i < n → (j : ℕ) → j < 5 → T (finite (fromBytes s (nodeOffset i + 4 + 8 * j)))
-  node-finite i m j l = within-finite b _ h (each-within b 5 s (nodeOffset i + 4) (node-floats b s (nodeOffset i) (a .each-node i m)) j l)
+    pub node-finite : (i : ℕ) → i < l .nodes → (j : ℕ) → j < 5 → T (finite (fromBytes s (nodePlace l i + 4 + 8 * j)))
+    node-finite i n j m = within-finite b _ h (each-within b 5 s (nodePlace l i + 4) (node-floats b s (nodePlace l i) (a .each-node i n)) j m)
 
-  pub link-finite : (i : ℕ) → i < k → (j : ℕ) → j < 5 → T (finite (fromBytes s (linkOffset n i + 9 + 8 * j)))
-  link-finite i m j l = within-finite b _ h (each-within b 5 s (linkOffset n i + 9) (link-floats b n s (linkOffset n i) (a .each-link i m)) j l)
+    pub link-finite : (i : ℕ) → i < l .links → (j : ℕ) → j < 5 → T (finite (fromBytes s (linkPlace l i + 9 + 8 * j)))
+    link-finite i n j m = within-finite b _ h (each-within b 5 s (linkPlace l i + 9) (link-floats b (l .nodes) s (linkPlace l i) (a .each-link i n)) j m)

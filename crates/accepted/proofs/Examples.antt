@@ -8,11 +8,13 @@ use lib.Ieee.{lt, le, eq, ofBits, ofFields, odd}
 use Rattle.float.specs.Sign.{absOf}
 use Rattle.patterns.specs.Bytes.{littleEndian, fromBytes}
 use Rattle.codes.specs.Codes.{linkCode}
-use Rattle.sheet.specs.Layout.{readable, runOf, hasOptions, nodesOf, linksOf, endOf}
-use Rattle.records.specs.Records.{shortAt}
+use Rattle.sheet.specs.Scan.{readable, recordsFrom, hasOptions, nodesOf, linksOf, layoutOf, endOf}
+use Rattle.records.specs.Records.{pairAt}
 use Rattle.fields.specs.Fields.{baseBounds, within, allWithin, optionsGood, nodeGood, linkCodes, linkNumbers, linkGood}
-use Rattle.ends.specs.Ends.{inService, endsGood}
-use Rattle.sheet.specs.Read.{firstBad, badEnds, badLink, badNode, badField, checked, counted, readWith, readOf}
+use Rattle.ends.specs.Ends.{endsGood}
+use Rattle.nodes.specs.Nodes.{inService, serving}
+use Rattle.layout.specs.Places.{plain, linkPlace}
+use Rattle.sheet.specs.Read.{firstBad, badEnds, badLink, badNode, badField, withUnknowns, checked, afterScan, readWith, readOf}
 use Rattle.fields.specs.declared.fields.Bounds.{Bounds}
 use Rattle.sheet.specs.declared.reading.Reading.the-variants.{Good, Refused}
 use Rattle.refusals.specs.declared.refusals.Refusal.the-variants.{Unreadable, NodeCount, LinkCount, Field, Ends}
@@ -39,23 +41,23 @@ link kind start end = 76 ∷ 75 ∷ kind ∷ 0 ∷ 2 ∷ start ∷ 0 ∷ end ∷
 document : List ℕ
 document = op 40 ++ (reservoir ++ junction)
 
-read-document : readOf document ≡ Good (record { nodes = 2; links = 0 })
-unfolding document op reservoir junction zeros readOf readWith hasOptions nodesOf linksOf endOf runOf readable counted checked badField badNode badLink badEnds firstBad baseBounds optionsGood nodeGood allWithin within shortAt littleEndian fromBytes absOf lt le eq ofBits ofFields odd trailingZeros
+read-document : readOf document ≡ Good (plain 2 0 1)
+unfolding document op reservoir junction zeros readOf readWith hasOptions nodesOf linksOf layoutOf endOf linkPlace recordsFrom readable afterScan withUnknowns serving inService checked badField badNode badLink badEnds firstBad baseBounds optionsGood nodeGood allWithin within pairAt littleEndian fromBytes absOf lt le eq ofBits ofFields odd trailingZeros
 read-document = refl
 
 -- nothing at all; a cut record; an unknown mark; no node
 unreadable : (readOf [] ≡ Refused (Unreadable 0)) × (readOf (op 40 ++ (78 ∷ 68 ∷ [])) ≡ Refused (Unreadable 29)) × (readOf (op 40 ++ (reservoir ++ (88 ∷ zeros 60))) ≡ Refused (Unreadable 74)) × (readOf (op 40) ≡ Refused NodeCount)
-unfolding op reservoir zeros readOf readWith hasOptions nodesOf linksOf endOf runOf readable counted baseBounds
+unfolding op reservoir zeros readOf readWith hasOptions nodesOf linksOf layoutOf endOf linkPlace recordsFrom readable afterScan baseBounds
 unreadable = (refl, refl, refl, refl)
 
 -- 201 trials; a link to a node that is not there
 out-of-bounds : (readOf (op 201 ++ reservoir) ≡ Refused (Field 0)) × (readOf (document ++ link 0 0 2) ≡ Refused (Field 119))
-unfolding document op reservoir junction link zeros readOf readWith hasOptions nodesOf linksOf endOf runOf readable counted checked badField badNode badLink firstBad baseBounds optionsGood nodeGood linkGood linkCodes linkNumbers allWithin within shortAt littleEndian fromBytes absOf lt le eq ofBits ofFields odd trailingZeros
+unfolding document op reservoir junction link zeros readOf readWith hasOptions nodesOf linksOf layoutOf endOf linkPlace recordsFrom readable afterScan withUnknowns serving inService checked badField badNode badLink firstBad baseBounds optionsGood nodeGood linkGood linkCodes linkNumbers allWithin within pairAt littleEndian fromBytes absOf lt le eq ofBits ofFields odd trailingZeros
 out-of-bounds = (refl, refl)
 
 -- a pipe from a node to itself; a PRV that ends at the reservoir; one that ends at the junction is read
-ends : (readOf (document ++ link 0 1 1) ≡ Refused (Ends 119)) × (readOf (document ++ link 1 1 0) ≡ Refused (Ends 119)) × (readOf (document ++ link 1 0 1) ≡ Good (record { nodes = 2; links = 1 }))
-unfolding document op reservoir junction link zeros readOf readWith hasOptions nodesOf linksOf endOf runOf readable counted checked badField badNode badLink badEnds firstBad baseBounds optionsGood nodeGood linkGood linkCodes linkNumbers endsGood inService allWithin within shortAt littleEndian fromBytes absOf lt le eq ofBits ofFields odd trailingZeros
+ends : (readOf (document ++ link 0 1 1) ≡ Refused (Ends 119)) × (readOf (document ++ link 1 1 0) ≡ Refused (Ends 119)) × (readOf (document ++ link 1 0 1) ≡ Good (plain 2 1 1))
+unfolding document op reservoir junction link zeros readOf readWith hasOptions nodesOf linksOf layoutOf endOf linkPlace recordsFrom readable afterScan withUnknowns serving inService checked badField badNode badLink badEnds firstBad baseBounds optionsGood nodeGood linkGood linkCodes linkNumbers endsGood allWithin within pairAt littleEndian fromBytes absOf lt le eq ofBits ofFields odd trailingZeros
 ends = (refl, refl, refl)
 
 -- a link where none is allowed: 2 at 1
@@ -63,5 +65,5 @@ few : Bounds
 few = record { nodes = 64; links = 0; trials = 200; unit = 10; magnitude = baseBounds .magnitude; diameter = baseBounds .diameter }
 
 too-many-links : readWith few (document ++ link 0 0 1) ≡ Refused LinkCount
-unfolding few document op reservoir junction link zeros readWith hasOptions nodesOf linksOf endOf runOf readable counted
+unfolding few document op reservoir junction link zeros readWith hasOptions nodesOf linksOf layoutOf endOf linkPlace recordsFrom readable afterScan
 too-many-links = refl

@@ -5,9 +5,9 @@ use mathlib.Core.Bool.{cond}
 use lib.Dec.{ltb}
 use lib.ListN.{length}
 use lib.Ieee.{Float}
-use Rattle.sheet.specs.declared.layout.Found.{Found}
-use Rattle.sheet.specs.declared.layout.Found.the-variants.{At, Nothing}
-use Rattle.sheet.specs.declared.reading.Net.{Net}
+use Rattle.found.specs.declared.Found.{Found}
+use Rattle.found.specs.declared.Found.the-variants.{At, Nothing}
+use Rattle.layout.specs.declared.places.Layout.{Layout}
 use Rattle.constants.specs.Constants as constant
 use Rattle.entries.specs.Entries.{none}
 use Rattle.entries.specs.declared.Tally.{Tally}
@@ -23,7 +23,7 @@ pub record Lent : Type 0 where
   pub scratch : List Float
 
 abbrev pub lent : List Float → List Float → List Float → List ℕ → List ℕ → List Float → Lent
-lent h d q t r x = record { heads = h; demands = d; flows = q; statuses = t; entries = r; scratch = x }
+lent h d q c r x = record { heads = h; demands = d; flows = q; statuses = c; entries = r; scratch = x }
 
 -- the answer, and what was lent after it
 pub record Solved : Type 0 where
@@ -31,12 +31,12 @@ pub record Solved : Type 0 where
   pub lent : Lent
 
 -- refusal 5: the lowest place of a buffer that is too short, by the buffers' lengths
-unfoldable pub shortOf : Net → ℕ → ℕ → ℕ → ℕ → ℕ → ℕ → ℕ → Found
-shortOf net trials heads demands flows statuses entries scratch =
-    cond (ltb heads (net .nodes)) (At 0)
-    (cond (ltb demands (net .nodes)) (At 1)
-    (cond (ltb flows (net .links)) (At 2)
-    (cond (ltb statuses (net .links)) (At 3)
+unfoldable pub tooShort : Layout → ℕ → ℕ → ℕ → ℕ → ℕ → ℕ → ℕ → Found
+tooShort l trials heads demands flows statuses entries scratch =
+    cond (ltb heads (l .nodes)) (At 0)
+    (cond (ltb demands (l .nodes)) (At 1)
+    (cond (ltb flows (l .links)) (At 2)
+    (cond (ltb statuses (l .links)) (At 3)
     (cond (ltb entries (4 * trials)) (At 4)
     (cond (ltb scratch 4096) (At 5) Nothing)))))
 
@@ -48,13 +48,13 @@ failedOf number place t =
 -- numbers 1 to 5 change nothing lent and report zero counts
 unfoldable pub refusedOf : ℕ → ℕ → Lent → Solved
 unfolding failedOf
-refusedOf number place l = record { answer = failedOf number place none; lent = l }
+refusedOf number place b = record { answer = failedOf number place none; lent = b }
 
 -- no buffer is too short
-pub record Enough (net : Net) (trials : ℕ) (l : Lent) : Type 0 where
-  pub heads : net .nodes ≤ length (l .heads)
-  pub demands : net .nodes ≤ length (l .demands)
-  pub flows : net .links ≤ length (l .flows)
-  pub statuses : net .links ≤ length (l .statuses)
-  pub entries : 4 * trials ≤ length (l .entries)
-  pub scratch : 4096 ≤ length (l .scratch)
+pub record Enough (l : Layout) (trials : ℕ) (b : Lent) : Type 0 where
+  pub heads : l .nodes ≤ length (b .heads)
+  pub demands : l .nodes ≤ length (b .demands)
+  pub flows : l .links ≤ length (b .flows)
+  pub statuses : l .links ≤ length (b .statuses)
+  pub entries : 4 * trials ≤ length (b .entries)
+  pub scratch : 4096 ≤ length (b .scratch)

@@ -1,10 +1,10 @@
 // The answer, refusal 5, and an answer without results (document 01, "What the desk is told").
 ghost use mathlib.Core.Path.{_≡_};
 ghost use Prim.Native.Nat.{_≤_};
-ghost use Rattle.answers.specs.Answers.{shortOf, failedOf};
+ghost use Rattle.answers.specs.Answers.{tooShort, failedOf};
 use entries::Tally;
-use sheet::Found;
-use sheet::Net;
+use found::Found;
+use layout::Layout;
 
 pub struct Answer {
     pub number: usize,
@@ -18,8 +18,8 @@ pub struct Answer {
 }
 
 // Refusal 5: the lowest place of a buffer that is too short, by the buffers' lengths.
-pub fn short(
-    net: Net,
+pub fn too_short(
+    l: Layout,
     trials: usize,
     heads: usize,
     demands: usize,
@@ -29,18 +29,18 @@ pub fn short(
     scratch: usize,
 ) -> Found
     requires { ⌜ trials ≤ 65535 ⌝ }
-    ensures { λ r. ⌜ r ≡ shortOf net trials heads demands flows statuses entries scratch ⌝ }
+    ensures { λ r. ⌜ r ≡ tooShort l trials heads demands flows statuses entries scratch ⌝ }
 {
-    if heads < net.nodes {
+    if heads < l.nodes {
         return Found::At(0);
     }
-    if demands < net.nodes {
+    if demands < l.nodes {
         return Found::At(1);
     }
-    if flows < net.links {
+    if flows < l.links {
         return Found::At(2);
     }
-    if statuses < net.links {
+    if statuses < l.links {
         return Found::At(3);
     }
     if entries < 4 * trials {

@@ -7,11 +7,11 @@ use native.Mathlib.Numerals.{add-one}
 use native.Mathlib.Omega.{arith}
 use lib.ListN.{getD}
 use lib.Ieee.{Float, nan}
-use Rattle.records.specs.Offsets.{nodeOffset, linkOffset}
-use Rattle.records.specs.Records.{shortAt}
+use Rattle.layout.specs.declared.places.Layout.{Layout}
+use Rattle.links.specs.Links.{linkStart, linkEnd}
 use Rattle.constants.specs.Arithmetic.{plus, minus}
 use Rattle.constants.specs.Constants as constant
-use Rattle.nodes.specs.Fields.{fixedNode}
+use Rattle.nodes.specs.Nodes.{fixedNode}
 use Rattle.columns.specs.Columns.{addTo}
 use Rattle.balance.specs.Balance.{demandOf, suppliedBy, supplyOf, balanceOf, settledOf}
 use Rattle.balance.specs.declared.Totals.{Totals}
@@ -43,24 +43,20 @@ pub start-free : (a b : Bool) (q t less : Float) → a ≡ false → less ≡ co
 unfolding suppliedBy
 start-free a b q t less h e = rw (h, e)
 
-pub no-supply : (s : List ℕ) (n : ℕ) (q : List Float) → constant.zero ≡ supplyOf s n q 0
+pub no-supply : (s : List ℕ) (l : Layout) (q : List Float) → constant.zero ≡ supplyOf s l q 0
 unfolding supplyOf
-no-supply s n q = refl
+no-supply s l q = refl
 
-pub next-supply : (s : List ℕ) (n : ℕ) (q : List Float) (i : ℕ) (t u : Float) (at a b : ℕ) (fa fb : Bool) → at ≡ linkOffset n i → a ≡ shortAt s (at + 5) → b ≡ shortAt s (at + 7) → fa ≡ fixedNode s a → fb ≡ fixedNode s b
-    → t ≡ supplyOf s n q i → u ≡ suppliedBy fa fb (getD q i nan) t → u ≡ supplyOf s n q (i + 1)
+pub next-supply : (s : List ℕ) (l : Layout) (q : List Float) (j : ℕ) (t u : Float) (a b : ℕ) (fa fb : Bool) → a ≡ linkStart s l j → b ≡ linkEnd s l j → fa ≡ fixedNode s l a → fb ≡ fixedNode s l b
+    → t ≡ supplyOf s l q j → u ≡ suppliedBy fa fb (getD q j nan) t → u ≡ supplyOf s l q (j + 1)
 unfolding supplyOf
-next-supply s n q i t u at a b fa fb p ha hb ga gb h k = rw (add-one i, k, h, ga, gb, ha, hb, p)
-
--- the record of a link's end is in the sheet
-pub end-inside : (n k : ℕ) {j m size : ℕ} → j < n → m ≡ j → linkOffset n k ≤ size → nodeOffset (m + 1) ≤ size
-end-inside n k h e g = omega arith
+next-supply s l q j t u a b fa fb ha hb ga gb h k = rw (add-one j, k, h, ga, gb, ha, hb)
 
 -- ---- the balance, and the demands after it
 
-pub balance-of : (s : List ℕ) (n k : ℕ) (d q : List Float) (x y : Float) → x ≡ demandOf d n → y ≡ supplyOf s n q k → _≡_ {A = Totals} (record { demand = x; supply = y; error = minus x y }) (balanceOf s n k d q)
+pub balance-of : (s : List ℕ) (l : Layout) (d q : List Float) (x y : Float) → x ≡ demandOf d (l .nodes) → y ≡ supplyOf s l q (l .links) → _≡_ {A = Totals} (record { demand = x; supply = y; error = minus x y }) (balanceOf s l d q)
 unfolding balanceOf
-balance-of s n k d q x y h g = rw (h, g)
+balance-of s l d q x y h g = rw (h, g)
 
 pub no-settled : (d : List Float) → d ≡ settledOf 0 d
 unfolding settledOf

@@ -1,14 +1,14 @@
 -- hydraulicsolver.rs `flow_balance`, and the demands' gain of +0.0 after it. Definitions only.
-use Prim.Native.Nat.{ℕ, zero, suc, _+_}
+use Prim.Native.Nat.{ℕ, zero, suc}
 use mathlib.Core.Bool.{Bool, cond}
 use mathlib.Core.List.{List}
 use lib.ListN.{getD}
 use lib.Ieee.{Float, nan}
-use Rattle.records.specs.Offsets.{linkOffset}
-use Rattle.records.specs.Records.{shortAt}
+use Rattle.layout.specs.declared.places.Layout.{Layout}
+use Rattle.links.specs.Links.{linkStart, linkEnd}
 use Rattle.constants.specs.Arithmetic.{plus, minus}
 use Rattle.constants.specs.Constants as constant
-use Rattle.nodes.specs.Fields.{fixedNode}
+use Rattle.nodes.specs.Nodes.{fixedNode}
 use Rattle.columns.specs.Columns.{addTo}
 use Rattle.balance.specs.declared.Totals.{Totals}
 
@@ -23,17 +23,21 @@ suppliedBy fixedStart fixedEnd q t =
     let less = cond fixedEnd (minus t q) t in
     cond fixedStart (plus less q) less
 
--- the supply over the first i links behind n nodes, from +0.0
-unfoldable pub supplyOf : List ℕ → ℕ → List Float → ℕ → Float
+-- the supply over the first j links, from +0.0
+unfoldable pub supplyOf : List ℕ → Layout → List Float → ℕ → Float
 unfolding suppliedBy
-supplyOf s n q zero = constant.zero
-supplyOf s n q (suc i) = suppliedBy (fixedNode s (shortAt s (linkOffset n i + 5))) (fixedNode s (shortAt s (linkOffset n i + 7))) (getD q i nan) (supplyOf s n q i)
+supplyOf s l q zero = constant.zero
+supplyOf s l q (suc j) = suppliedBy (fixedNode s l (linkStart s l j)) (fixedNode s l (linkEnd s l j)) (getD q j nan) (supplyOf s l q j)
 
 -- total demand, total supply, error
-unfoldable pub balanceOf : List ℕ → ℕ → ℕ → List Float → List Float → Totals
+unfoldable pub balanceOf : List ℕ → Layout → List Float → List Float → Totals
 unfolding demandOf supplyOf
-balanceOf s n k d q =
-    record { demand = demandOf d n; supply = supplyOf s n q k; error = minus (demandOf d n) (supplyOf s n q k) }
+balanceOf s l d q =
+    record {
+      demand = demandOf d (l .nodes);
+      supply = supplyOf s l q (l .links);
+      error = minus (demandOf d (l .nodes)) (supplyOf s l q (l .links));
+    }
 
 -- each of the first i demands gains +0.0: the Rust adds what emitters draw, and there are none
 unfoldable pub settledOf : ℕ → List Float → List Float

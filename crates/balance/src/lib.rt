@@ -2,13 +2,14 @@
 ghost use mathlib.Core.Path.{_≡_};
 ghost use Prim.Native.Nat.{_≤_};
 ghost use lib.ListN.{length};
-ghost use Rattle.records.specs.Offsets.{linkOffset};
-ghost use Rattle.sheet.specs.Ends.{EndsBelow};
+ghost use Rattle.layout.specs.Places.{Laid};
+ghost use Rattle.links.specs.Links.{EndsIn};
 ghost use Rattle.balance.specs.Balance.{demandOf, suppliedBy, supplyOf, balanceOf, settledOf};
 use columns::add_to;
+use layout::Layout;
+use links::link_end;
+use links::link_start;
 use nodes::is_fixed;
-use records::link_offset;
-use records::short;
 
 // Total demand, total supply, and the first less the second.
 pub struct Totals {
@@ -42,31 +43,32 @@ fn supplied(fixed_start: bool, fixed_end: bool, q: f64, supply: f64) -> f64
     t
 }
 
-fn total_supply(sheet: &[u8], nodes: usize, links: usize, flows: &[f64]) -> f64
-    requires { ⌜ (linkOffset nodes links ≤ length (now sheet)) × (links ≤ length (now flows)) ⌝ }
-    requires { ⌜ EndsBelow nodes links (now sheet) ⌝ }
-    ensures { λ r. ⌜ r ≡ supplyOf (now (sheet .entry)) nodes (now (flows .entry)) links ⌝ }
+fn total_supply(sheet: &[u8], l: Layout, flows: &[f64]) -> f64
+    requires { ⌜ Laid l (now sheet) ⌝ }
+    requires { ⌜ EndsIn l (now sheet) ⌝ }
+    requires { ⌜ l .links ≤ length (now flows) ⌝ }
+    ensures { λ r. ⌜ r ≡ supplyOf (now (sheet .entry)) l (now (flows .entry)) (l .links) ⌝ }
 {
     let mut supply = 0.0;
-    for i in 0..links {
-        let at = link_offset(nodes, i);
-        let start = short(sheet, at + 5);
-        let end = short(sheet, at + 7);
-        let fixed_start = is_fixed(sheet, start);
-        let fixed_end = is_fixed(sheet, end);
-        supply = supplied(fixed_start, fixed_end, flows[i], supply);
+    for j in 0..l.links {
+        let start = link_start(sheet, l, j);
+        let end = link_end(sheet, l, j);
+        let fixed_start = is_fixed(sheet, l, start);
+        let fixed_end = is_fixed(sheet, l, end);
+        supply = supplied(fixed_start, fixed_end, flows[j], supply);
     }
     supply
 }
 
 // The balance of a converged solve.
-pub fn balanced(sheet: &[u8], nodes: usize, links: usize, demands: &[f64], flows: &[f64]) -> Totals
-    requires { ⌜ (linkOffset nodes links ≤ length (now sheet)) × ((nodes ≤ length (now demands)) × (links ≤ length (now flows))) ⌝ }
-    requires { ⌜ EndsBelow nodes links (now sheet) ⌝ }
-    ensures { λ r. ⌜ r ≡ balanceOf (now (sheet .entry)) nodes links (now (demands .entry)) (now (flows .entry)) ⌝ }
+pub fn balanced(sheet: &[u8], l: Layout, demands: &[f64], flows: &[f64]) -> Totals
+    requires { ⌜ Laid l (now sheet) ⌝ }
+    requires { ⌜ EndsIn l (now sheet) ⌝ }
+    requires { ⌜ (l .nodes ≤ length (now demands)) × (l .links ≤ length (now flows)) ⌝ }
+    ensures { λ r. ⌜ r ≡ balanceOf (now (sheet .entry)) l (now (demands .entry)) (now (flows .entry)) ⌝ }
 {
-    let demand = total_demand(demands, nodes);
-    let supply = total_supply(sheet, nodes, links, flows);
+    let demand = total_demand(demands, l.nodes);
+    let supply = total_supply(sheet, l, flows);
     Totals {
         demand: demand,
         supply: supply,

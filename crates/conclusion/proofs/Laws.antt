@@ -3,8 +3,8 @@ use Prim.Native.Nat.{ℕ}
 use mathlib.Core.Path.{_≡_}
 use mathlib.Core.List.{List}
 use lib.Ieee.{Float}
-use Rattle.numbering.specs.declared.NodeIndex.{NodeIndex}
-use Rattle.sheet.specs.declared.reading.Net.{Net}
+use Rattle.nodes.specs.declared.NodeIndex.{NodeIndex}
+use Rattle.layout.specs.declared.places.Layout.{Layout}
 use Rattle.columns.specs.Columns.{copied}
 use Rattle.state.specs.State.{State}
 use Rattle.balance.specs.Balance.{balanceOf, settledOf}
@@ -16,29 +16,29 @@ use Rattle.answers.specs.declared.Answer.{Answer}
 use Rattle.answers.specs.Answers.{Lent, lent, failedOf}
 use Rattle.conclusion.specs.Conclusion.{emptied, unsolved, delivered, settledBy, told}
 
-module _ (s : List ℕ) (net : Net) (trials : ℕ) (l : Lent) (t : State) (tally : Tally) (bytes : List ℕ) (ended : Ended) where
-  pub told-balanced : (b : Totals) (d' h d q : List Float) (codes : List ℕ) → ended ≡ Balanced → b ≡ balanceOf s (net .nodes) (net .links) (t .demands) (t .flows)
-      → d' ≡ settledOf (net .nodes) (t .demands) → h ≡ copied (net .nodes) (t .heads) (l .heads) → d ≡ copied (net .nodes) d' (l .demands)
-      → q ≡ copied (net .links) (t .flows) (l .flows) → codes ≡ copied (net .links) (t .statuses) (l .statuses)
+module _ (s : List ℕ) (l : Layout) (trials : ℕ) (b : Lent) (t : State) (tally : Tally) (bytes : List ℕ) (ended : Ended) where
+  pub told-balanced : (w : Totals) (d' h d q : List Float) (codes : List ℕ) → ended ≡ Balanced → w ≡ balanceOf s l (t .demands) (t .flows)
+      → d' ≡ settledOf (l .nodes) (t .demands) → h ≡ copied (l .nodes) (t .heads) (b .heads) → d ≡ copied (l .nodes) d' (b .demands)
+      → q ≡ copied (l .links) (t .flows) (b .flows) → codes ≡ copied (l .links) (t .statuses) (b .statuses)
       → record {
-        answer = record { number = 0; place = 0; trials = tally .trials; freed = tally .freed; grounded = tally .grounded; demand = b .demand; supply = b .supply; error = b .error };
-        lent = lent h d q codes bytes (emptied (l .scratch));
-      } ≡ told s net trials l t tally bytes ended
+        answer = record { number = 0; place = 0; trials = tally .trials; freed = tally .freed; grounded = tally .grounded; demand = w .demand; supply = w .supply; error = w .error };
+        lent = lent h d q codes bytes (emptied (b .scratch));
+      } ≡ told s l trials b t tally bytes ended
   unfolding told delivered
-  told-balanced b d' h d q codes e eb es eh ed eq ec = rw (e, ← eb, ← es, eh, ed, eq, ec)
+  told-balanced w d' h d q codes e eb es eh ed eq ec = rw (e, ← eb, ← es, eh, ed, eq, ec)
 
   pub told-failed : (a : Answer) (node : NodeIndex) → ended ≡ Failed node → a ≡ failedOf 6 (node .0) tally
-      → record { answer = a; lent = lent (l .heads) (l .demands) (l .flows) (l .statuses) bytes (emptied (l .scratch)) } ≡ told s net trials l t tally bytes ended
+      → record { answer = a; lent = lent (b .heads) (b .demands) (b .flows) (b .statuses) bytes (emptied (b .scratch)) } ≡ told s l trials b t tally bytes ended
   unfolding told unsolved
   told-failed a node e ea = rw (e, ea)
 
   pub told-strayed : (a : Answer) (place : ℕ) → ended ≡ Strayed place → a ≡ failedOf 7 place tally
-      → record { answer = a; lent = lent (l .heads) (l .demands) (l .flows) (l .statuses) bytes (emptied (l .scratch)) } ≡ told s net trials l t tally bytes ended
+      → record { answer = a; lent = lent (b .heads) (b .demands) (b .flows) (b .statuses) bytes (emptied (b .scratch)) } ≡ told s l trials b t tally bytes ended
   unfolding told unsolved
   told-strayed a place e ea = rw (e, ea)
 
   pub told-limit : (a : Answer) → ended ≡ Limit → a ≡ failedOf 8 trials tally
-      → record { answer = a; lent = lent (l .heads) (l .demands) (l .flows) (l .statuses) bytes (emptied (l .scratch)) } ≡ told s net trials l t tally bytes ended
+      → record { answer = a; lent = lent (b .heads) (b .demands) (b .flows) (b .statuses) bytes (emptied (b .scratch)) } ≡ told s l trials b t tally bytes ended
   unfolding told unsolved
   told-limit a e ea = rw (e, ea)
 

@@ -2,6 +2,7 @@
 mod steps;
 mod units;
 
+pub use steps::Damping;
 pub use steps::converged;
 pub use steps::damped;
 pub use steps::relative_change;

@@ -7,6 +7,12 @@ use constants::Q_ZERO;
 use float::larger;
 use float::smaller;
 
+// The damping factor and the relative change before.
+pub struct Damping {
+    pub factor: f64,
+    pub previous: f64,
+}
+
 // The next damping factor. A NaN change leaves it as it is.
 pub fn damped(factor: f64, previous: f64, change: f64, limit: f64) -> f64
     ensures { λ r. ⌜ r ≡ dampedOf factor previous change limit ⌝ }

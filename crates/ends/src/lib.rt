@@ -2,4 +2,3 @@
 mod ends;
 
 pub use ends::ends_good;
-pub use ends::in_service;

@@ -1,12 +1,12 @@
--- What the answer counts of the trial record, and what follows an entry. Definitions only.
+-- What the answer counts of the trial record, and what follows an entry: the trial's, or the end of the run. Definitions only.
 use Prim.Native.Nat.{_+_}
 use mathlib.Core.List.{List, [], _∷_}
 use lib.Ieee.{inf}
 use mathlib.Core.Bool.{false}
 use Rattle.constants.specs.Constants as constant
-use Rattle.repair.specs.declared.Damping.{Damping}
-use Rattle.repair.specs.declared.Entry.{Entry}
-use Rattle.repair.specs.declared.Entry.the-variants.{Freed, Grounded, Singular, Wild, Stepped, Converged}
+use Rattle.damping.specs.declared.steps.Damping.{Damping}
+use Rattle.entries.specs.declared.Entry.{Entry}
+use Rattle.entries.specs.declared.Entry.the-variants.{Freed, Grounded, Singular, Wild, Stepped, Converged}
 use Rattle.entries.specs.declared.Ended.{Ended}
 use Rattle.entries.specs.declared.Ended.the-variants.{Balanced, Failed, Strayed, Limit}
 use Rattle.entries.specs.declared.Going.{Going}

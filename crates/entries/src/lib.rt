@@ -1,10 +1,20 @@
-// What the answer counts of the trial record, and what follows an entry.
+// What a trial leaves in the record, what the answer counts of it, and what follows an entry.
 ghost use mathlib.Core.Path.{_≡_};
 ghost use Prim.Native.Nat.{_+_, _<_, _≤_};
 ghost use Rattle.entries.specs.Entries.{dampingStart, goingOf, counted};
-use numbering::NodeIndex;
-use repair::Damping;
-use repair::Entry;
+use damping::Damping;
+use links::LinkIndex;
+use nodes::NodeIndex;
+
+// What a trial came to: VF, GN, SG, NF, ST (with the damping of the next trial), OK.
+pub enum Entry {
+    Freed(LinkIndex),
+    Grounded(NodeIndex),
+    Singular(NodeIndex),
+    Wild(usize),
+    Stepped(Damping),
+    Converged,
+}
 
 // How a run of trials ended: 0, 6, 7, 8.
 pub enum Ended {

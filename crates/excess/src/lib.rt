@@ -2,24 +2,25 @@
 ghost use mathlib.Core.Path.{_≡_};
 ghost use Prim.Native.Nat.{_<_, _≤_};
 ghost use lib.ListN.{length};
-ghost use Rattle.records.specs.Offsets.{linkOffset};
-ghost use Rattle.sheet.specs.Ends.{EndsBelow};
-ghost use Rattle.excess.specs.Excess.{present, lessDemands, moved, withFlows, excessOf};
+ghost use Rattle.layout.specs.Places.{Laid};
+ghost use Rattle.links.specs.Links.{EndsIn};
+ghost use Rattle.excess.specs.Excess.{present, lessDemands, shifted, withFlows, excessOf};
 use columns::add_to;
 use columns::clear;
 use columns::take_from;
-use records::link_offset;
-use records::short;
+use layout::Layout;
+use links::is_regulator;
+use links::link_end;
+use links::link_start;
 
 // Whether a link is a PRV or a PSV, at any status, in service or not.
-fn any_regulator(sheet: &[u8], nodes: usize, links: usize) -> bool
-    requires { ⌜ linkOffset nodes links ≤ length (now sheet) ⌝ }
-    ensures { λ r. ⌜ r ≡ present (now (sheet .entry)) nodes links ⌝ }
+fn any_regulator(sheet: &[u8], l: Layout) -> bool
+    requires { ⌜ Laid l (now sheet) ⌝ }
+    ensures { λ r. ⌜ r ≡ present (now (sheet .entry)) l (l .links) ⌝ }
 {
     let mut found = false;
-    for i in 0..links {
-        let kind = sheet[link_offset(nodes, i) + 2];
-        found = found | ((kind == 1) | (kind == 2));
+    for i in 0..l.links {
+        found = found | is_regulator(sheet, l, i);
     }
     found
 }
@@ -37,44 +38,40 @@ fn start_at_demands(nodes: usize, demands: &[f64], excess: &mut [f64])
 // Takes a flow from the start and adds it at the end.
 fn move_flow(excess: &mut [f64], start: usize, end: usize, q: f64)
     requires { ⌜ (start < length (now excess)) × (end < length (now excess)) ⌝ }
-    ensures { λ _. ⌜ now (excess .exit) ≡ moved (now (excess .entry)) start end q ⌝ }
+    ensures { λ _. ⌜ now (excess .exit) ≡ shifted (now (excess .entry)) start end q ⌝ }
 {
     take_from(excess, start, q);
     add_to(excess, end, q);
 }
 
 // The flows of all links in order, those of links out of service too.
-fn move_flows(sheet: &[u8], nodes: usize, links: usize, flows: &[f64], excess: &mut [f64])
-    requires { ⌜ (linkOffset nodes links ≤ length (now sheet)) × ((nodes ≤ length (now excess)) × (links ≤ length (now flows))) ⌝ }
-    requires { ⌜ EndsBelow nodes links (now sheet) ⌝ }
-    ensures { λ _. ⌜ now (excess .exit) ≡ withFlows (now (sheet .entry)) nodes (now (flows .entry)) links (now (excess .entry)) ⌝ }
+fn move_flows(sheet: &[u8], l: Layout, flows: &[f64], excess: &mut [f64])
+    requires { ⌜ Laid l (now sheet) ⌝ }
+    requires { ⌜ EndsIn l (now sheet) ⌝ }
+    requires { ⌜ (l .nodes ≤ length (now excess)) × (l .links ≤ length (now flows)) ⌝ }
+    ensures { λ _. ⌜ now (excess .exit) ≡ withFlows (now (sheet .entry)) l (now (flows .entry)) (l .links) (now (excess .entry)) ⌝ }
 {
-    for i in 0..links {
-        let at = link_offset(nodes, i);
-        let start = short(sheet, at + 5);
-        let end = short(sheet, at + 7);
-        let q = flows[i];
-        move_flow(excess, start, end, q);
+    for i in 0..l.links {
+        move_flow(
+            excess,
+            link_start(sheet, l, i),
+            link_end(sheet, l, i),
+            flows[i],
+        );
     }
 }
 
 // The excess flow of each node, +0.0 where no PRV or PSV is present.
-pub fn excess_flows(
-    sheet: &[u8],
-    nodes: usize,
-    links: usize,
-    demands: &[f64],
-    flows: &[f64],
-    excess: &mut [f64],
-)
-    requires { ⌜ (linkOffset nodes links ≤ length (now sheet)) × ((nodes ≤ length (now demands)) × ((nodes ≤ length (now excess)) × (links ≤ length (now flows)))) ⌝ }
-    requires { ⌜ EndsBelow nodes links (now sheet) ⌝ }
-    ensures { λ _. ⌜ now (excess .exit) ≡ excessOf (now (sheet .entry)) nodes links (now (demands .entry)) (now (flows .entry)) (now (excess .entry)) ⌝ }
+pub fn excess_flows(sheet: &[u8], l: Layout, demands: &[f64], flows: &[f64], excess: &mut [f64])
+    requires { ⌜ Laid l (now sheet) ⌝ }
+    requires { ⌜ EndsIn l (now sheet) ⌝ }
+    requires { ⌜ (l .nodes ≤ length (now demands)) × ((l .nodes ≤ length (now excess)) × (l .links ≤ length (now flows))) ⌝ }
+    ensures { λ _. ⌜ now (excess .exit) ≡ excessOf (now (sheet .entry)) l (now (demands .entry)) (now (flows .entry)) (now (excess .entry)) ⌝ }
 {
-    if any_regulator(sheet, nodes, links) {
-        start_at_demands(nodes, demands, excess);
-        move_flows(sheet, nodes, links, flows, excess);
+    if any_regulator(sheet, l) {
+        start_at_demands(l.nodes, demands, excess);
+        move_flows(sheet, l, flows, excess);
     } else {
-        clear(nodes, excess);
+        clear(l.nodes, excess);
     }
 }

@@ -7,12 +7,12 @@ use native.Mathlib.Numerals.{add-one}
 use lib.Dec.{eqb, leb, ltb}
 use lib.Ieee.{Float, lt, le}
 use Rattle.patterns.specs.Bytes.{fromBytes}
-use Rattle.records.specs.Records.{byteAt, shortAt}
+use Rattle.records.specs.Records.{byteAt, pairAt}
 use Rattle.fields.specs.Fields.{null, within, allWithin, optionsGood, nodeGood, linkCodes, linkNumbers, linkGood}
 use Rattle.fields.specs.declared.fields.Bounds.{Bounds}
 
 module _ (s : List ℕ) where
-  pub options-good : (b : Bounds) (r : Bool) (x y z : Float) (t : ℕ) → r ≡ allWithin b 3 s 2 → x ≡ fromBytes s 2 → y ≡ fromBytes s 10 → z ≡ fromBytes s 18 → t ≡ shortAt s 26 → (r && lt null x && le null y && le null z && leb 1 t && leb t (b .trials) && leb (byteAt s 28) (b .unit)) ≡ optionsGood b s
+  pub options-good : (b : Bounds) (r : Bool) (x y z : Float) (t : ℕ) → r ≡ allWithin b 3 s 2 → x ≡ fromBytes s 2 → y ≡ fromBytes s 10 → z ≡ fromBytes s 18 → t ≡ pairAt s 26 → (r && lt null x && le null y && le null z && leb 1 t && leb t (b .trials) && leb (byteAt s 28) (b .unit)) ≡ optionsGood b s
   unfolding optionsGood
   options-good b r x y z t a c d e f = rw (a, c, d, e, f)
 
@@ -20,7 +20,7 @@ module _ (s : List ℕ) where
   unfolding nodeGood
   node-good b at r a = rw a
 
-  pub link-codes : (n at x y : ℕ) → x ≡ shortAt s (at + 5) → y ≡ shortAt s (at + 7) → (leb (byteAt s (at + 2)) 6 && leb (byteAt s (at + 3)) 1 && leb (byteAt s (at + 4)) 7 && ltb x n && ltb y n) ≡ linkCodes n s at
+  pub link-codes : (n at x y : ℕ) → x ≡ pairAt s (at + 5) → y ≡ pairAt s (at + 7) → (leb (byteAt s (at + 2)) 6 && leb (byteAt s (at + 3)) 1 && leb (byteAt s (at + 4)) 7 && ltb x n && ltb y n) ≡ linkCodes n s at
   unfolding linkCodes
   link-codes n at x y a b = rw (a, b)
 

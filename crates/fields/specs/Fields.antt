@@ -6,7 +6,7 @@ use lib.Dec.{eqb, leb, ltb}
 use lib.Ieee.{Float, binary64, ofBits, lt, le}
 use Rattle.float.specs.Sign.{absOf}
 use Rattle.patterns.specs.Bytes.{fromBytes}
-use Rattle.records.specs.Records.{byteAt, shortAt}
+use Rattle.records.specs.Records.{byteAt, pairAt}
 use Rattle.fields.specs.declared.fields.Bounds.{Bounds}
 
 -- 64 nodes, 128 links, 200 trials, units to 10, 2 ^ 40 and 2 ^ -10
@@ -35,8 +35,8 @@ optionsGood b s =
     && lt null (fromBytes s 2)
     && le null (fromBytes s 10)
     && le null (fromBytes s 18)
-    && leb 1 (shortAt s 26)
-    && leb (shortAt s 26) (b .trials)
+    && leb 1 (pairAt s 26)
+    && leb (pairAt s 26) (b .trials)
     && leb (byteAt s 28) (b .unit)
 
 -- ND: kind, disabled flag, five floats, overflow flag
@@ -50,8 +50,8 @@ linkCodes n s at =
     leb (byteAt s (at + 2)) 6
     && leb (byteAt s (at + 3)) 1
     && leb (byteAt s (at + 4)) 7
-    && ltb (shortAt s (at + 5)) n
-    && ltb (shortAt s (at + 7)) n
+    && ltb (pairAt s (at + 5)) n
+    && ltb (pairAt s (at + 7)) n
 
 -- five floats; minor loss and resistance 0 or more; a valve's diameter not below the least
 unfoldable pub linkNumbers : Bounds → List ℕ → ℕ → Bool

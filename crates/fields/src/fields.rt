@@ -5,7 +5,7 @@ ghost use lib.ListN.{length};
 ghost use Rattle.fields.specs.Fields.{baseBounds, within, allWithin, optionsGood, nodeGood, linkCodes, linkNumbers, linkGood};
 use float::abs;
 use patterns::from_bytes;
-use records::short;
+use records::pair_at;
 
 // What a sheet may hold: at most so many nodes and links, trials, the greatest code of a unit, the
 // greatest magnitude of a number, and the least diameter of a valve.
@@ -55,7 +55,7 @@ pub fn options_good(sheet: &[u8], b: Bounds) -> bool
     requires { ⌜ 29 ≤ length (now sheet) ⌝ }
     ensures { λ r. ⌜ r ≡ optionsGood b (now (sheet .entry)) ⌝ }
 {
-    let trials = short(sheet, 26);
+    let trials = pair_at(sheet, 26);
     all_within(sheet, 2, 3, b)
         & (0.0 < from_bytes(sheet, 2))
         & (0.0 <= from_bytes(sheet, 10))
@@ -83,8 +83,8 @@ fn link_codes(sheet: &[u8], at: usize, nodes: usize) -> bool
     (sheet[at + 2] <= 6)
         & (sheet[at + 3] <= 1)
         & (sheet[at + 4] <= 7)
-        & (short(sheet, at + 5) < nodes)
-        & (short(sheet, at + 7) < nodes)
+        & (pair_at(sheet, at + 5) < nodes)
+        & (pair_at(sheet, at + 7) < nodes)
 }
 
 // A link's numbers are within their bounds. A valve's diameter has a least value, a pipe's is free.

@@ -6,56 +6,43 @@ use Prim.Native.Nat.{ℕ, _+_, _<_}
 use native.Mathlib.Omega.{arith}
 use lib.ListN.{getD, set}
 use lib.Ieee.{Float, nan}
-use Rattle.records.specs.Offsets.{linkOffset}
-use Rattle.records.specs.Records.{linkAt}
+use Rattle.layout.specs.declared.places.Layout.{Layout}
 use Rattle.codes.specs.Codes.{statusOf}
 use Rattle.codes.specs.declared.Status.{Status}
 use Rattle.records.specs.declared.records.Link.{Link}
-use Rattle.sheet.specs.Ends.{EndsBelow}
+use Rattle.links.specs.Links.{linkOf}
 use Rattle.model.specs.Rules.{coefficientsOf}
 use Rattle.coefficient.specs.declared.Coefficients.{Coefficients}
-use Rattle.nodes.specs.Fields.{enabled, fixedNode, elevationOf}
+use Rattle.nodes.specs.Nodes.{enabled, fixedNode, elevationOf}
 use Rattle.numbering.specs.Numbering.{rowAt}
 use Rattle.scatter.specs.Scatter.{linkMatrix, linkRow}
-use Rattle.link_rows.specs.Links.{System, system, Columns, coefficientsAt, linkIn, linkOf}
+use Rattle.link_rows.specs.LinkRows.{System, system, View, coefficientsAt, linkPlaced, linkAdded}
 use Rattle.numbering.specs.declared.Row.{Row}
 
-pub coefficients-of : (s : List ℕ) (flows : List Float) (statuses : List ℕ) (excess : List Float) (l : Link) (i : ℕ) (status : Status) (up down : Float) (k : Coefficients)
-    → status ≡ statusOf (getD statuses i 0) → up ≡ elevationOf s (l .start) → down ≡ elevationOf s (l .end)
-    → k ≡ coefficientsOf l status (getD flows i nan) (getD excess (l .start) nan) (getD excess (l .end) nan) up down
-    → k ≡ coefficientsAt s flows statuses excess l i
+pub coefficients-of : (s : List ℕ) (l : Layout) (flows : List Float) (statuses : List ℕ) (excess : List Float) (k : Link) (j : ℕ) (status : Status) (up down : Float) (c : Coefficients)
+    → status ≡ statusOf (getD statuses j 0) → up ≡ elevationOf s l (k .start) → down ≡ elevationOf s l (k .end)
+    → c ≡ coefficientsOf k status (getD flows j nan) (getD excess (k .start) nan) (getD excess (k .end) nan) up down
+    → c ≡ coefficientsAt s l flows statuses excess k j
 unfolding coefficientsAt
-coefficients-of s flows statuses excess l i status up down k a b d h = rw (h, a, b, d)
+coefficients-of s l flows statuses excess k j status up down c a b d h = rw (h, a, b, d)
 
-pub placed : (s : List ℕ) (c : Columns) (l : Link) (k : Coefficients) (i : ℕ) (u v : Row) (fu fv : Bool) (m m₁ r r₁ g y : List Float)
-    → u ≡ rowAt s (l .start) → v ≡ rowAt s (l .end) → fu ≡ fixedNode s (l .start) → fv ≡ fixedNode s (l .end)
-    → m₁ ≡ linkMatrix u v k m
-    → r₁ ≡ linkRow u v k (getD (c .flows) i nan) fu fv (getD (c .heads) (l .start) nan) (getD (c .heads) (l .end) nan) r
-    → system m₁ r₁ (set g i (k .conductance)) (set y i (k .offset)) ≡ linkIn s c l k i (system m r g y)
-unfolding linkIn
-placed s c l k i u v fu fv m m₁ r r₁ g y a b d e p q = rw (p, q, a, b, d, e)
+pub placed : (s : List ℕ) (l : Layout) (v : View) (k : Link) (c : Coefficients) (j : ℕ) (ru rv : Row) (fu fv : Bool) (m m₁ r r₁ g y : List Float)
+    → ru ≡ rowAt s l (k .start) → rv ≡ rowAt s l (k .end) → fu ≡ fixedNode s l (k .start) → fv ≡ fixedNode s l (k .end)
+    → m₁ ≡ linkMatrix ru rv c m
+    → r₁ ≡ linkRow ru rv c (getD (v .flows) j nan) fu fv (getD (v .heads) (k .start) nan) (getD (v .heads) (k .end) nan) r
+    → system m₁ r₁ (set g j (c .conductance)) (set y j (c .offset)) ≡ linkPlaced s l v k c j (system m r g y)
+unfolding linkPlaced
+placed s l v k c j ru rv fu fv m m₁ r r₁ g y a b d e p q = rw (p, q, a, b, d, e)
 
--- the ends of a link that was read are nodes
-module _ (s : List ℕ) (n i at : ℕ) (l : Link) (ends : EndsBelow n (i + 1) s) (here : at ≡ linkOffset n i) (read : l ≡ linkAt s at) where
-  pub start-below : l .start < n
-  unfolding linkAt
-  start-below = rw (read, here) (ends .start i (omega arith))
+module _ (s : List ℕ) (l : Layout) (v : View) (j : ℕ) (k : Link) (read : k ≡ linkOf s l j) (m n : Bool) (hm : m ≡ enabled s l (k .start)) (hn : n ≡ enabled s l (k .end)) (a : System) where
+  pub link-in : (c : Coefficients) (a₁ : System) → (m && n) ≡ true → c ≡ coefficientsAt s l (v .flows) (v .statuses) (v .excess) k j → a₁ ≡ linkPlaced s l v k c j a → a₁ ≡ linkAdded s l v (linkOf s l j) j a
+  unfolding linkAdded
+  link-in c a₁ h e p =
+      let on : (enabled s l (k .start) && enabled s l (k .end)) ≡ true = rw (← hm, ← hn) h in
+      rw (← read, on, ← e) p
 
-  pub end-below : l .end < n
-  unfolding linkAt
-  end-below = rw (read, here) (ends .end i (omega arith))
-
-module _ (s : List ℕ) (c : Columns) (n i at : ℕ) (l : Link) (here : at ≡ linkOffset n i) (read : l ≡ linkAt s at) (a b : Bool) (ha : a ≡ enabled s (l .start)) (hb : b ≡ enabled s (l .end)) (t : System) where
-  pub link-in : (k : Coefficients) (t₁ : System) → (a && b) ≡ true → k ≡ coefficientsAt s (c .flows) (c .statuses) (c .excess) l i → t₁ ≡ linkIn s c l k i t → t₁ ≡ linkOf s c (linkAt s (linkOffset n i)) i t
-  unfolding linkOf
-  link-in k t₁ h e p =
-      let w : linkAt s (linkOffset n i) ≡ l = sym (read ∙ ap (linkAt s) here) in
-      let on : (enabled s (l .start) && enabled s (l .end)) ≡ true = rw (← ha, ← hb) h in
-      rw (w, on, ← e) p
-
-  pub link-out : (a && b) ≡ false → t ≡ linkOf s c (linkAt s (linkOffset n i)) i t
-  unfolding linkOf
+  pub link-out : (m && n) ≡ false → a ≡ linkAdded s l v (linkOf s l j) j a
+  unfolding linkAdded
   link-out h =
-      let w : linkAt s (linkOffset n i) ≡ l = sym (read ∙ ap (linkAt s) here) in
-      let off : (enabled s (l .start) && enabled s (l .end)) ≡ false = rw (← ha, ← hb) h in
-      rw (w, off)
+      let off : (enabled s l (k .start) && enabled s l (k .end)) ≡ false = rw (← hm, ← hn) h in
+      rw (← read, off)

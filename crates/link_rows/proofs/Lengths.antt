@@ -7,35 +7,36 @@ use lib.ListN.{length, getD, length-set}
 use lib.Ieee.{Float, nan}
 use Rattle.records.specs.declared.records.Link.{Link}
 use Rattle.coefficient.specs.declared.Coefficients.{Coefficients}
-use Rattle.nodes.specs.Fields.{enabled, fixedNode}
+use Rattle.nodes.specs.Nodes.{enabled, fixedNode}
 use Rattle.numbering.specs.Numbering.{rowAt}
 use Rattle.scatter.proofs.Lengths.{matrix-long, row-long}
-use Rattle.link_rows.specs.Links.{System, Columns, coefficientsAt, linkIn, linkOf}
+use Rattle.layout.specs.declared.places.Layout.{Layout}
+use Rattle.link_rows.specs.LinkRows.{System, View, coefficientsAt, linkPlaced, linkAdded}
 
 -- two systems have their columns of the same lengths
-pub record SameLengths (t t₀ : System) : Type 0 where
-  pub matrix : length (t .matrix) ≡ length (t₀ .matrix)
-  pub rhs : length (t .rhs) ≡ length (t₀ .rhs)
-  pub g : length (t .g) ≡ length (t₀ .g)
-  pub y : length (t .y) ≡ length (t₀ .y)
+pub record SameLengths (a a₀ : System) : Type 0 where
+  pub matrix : length (a .matrix) ≡ length (a₀ .matrix)
+  pub rhs : length (a .rhs) ≡ length (a₀ .rhs)
+  pub g : length (a .g) ≡ length (a₀ .g)
+  pub y : length (a .y) ≡ length (a₀ .y)
 
-pub same : (t : System) → SameLengths t t
-same t = record { matrix = refl; rhs = refl; g = refl; y = refl }
+pub same : (a : System) → SameLengths a a
+same a = record { matrix = refl; rhs = refl; g = refl; y = refl }
 
-link-in-long : (s : List ℕ) (c : Columns) (l : Link) (k : Coefficients) (i : ℕ) (t t₀ : System) → SameLengths t t₀ → SameLengths (linkIn s c l k i t) t₀
-unfolding linkIn
-link-in-long s c l k i t t₀ d =
+link-placed-long : (s : List ℕ) (l : Layout) (v : View) (k : Link) (c : Coefficients) (j : ℕ) (a a₀ : System) → SameLengths a a₀ → SameLengths (linkPlaced s l v k c j a) a₀
+unfolding linkPlaced
+link-placed-long s l v k c j a a₀ d =
     record {
-      matrix = matrix-long (rowAt s (l .start)) (rowAt s (l .end)) k (t .matrix) ∙ d .matrix;
-      rhs = row-long (rowAt s (l .start)) (rowAt s (l .end)) k (getD (c .flows) i nan) (fixedNode s (l .start)) (fixedNode s (l .end)) (getD (c .heads) (l .start) nan) (getD (c .heads) (l .end) nan) (t .rhs) ∙ d .rhs;
-      g = length-set (t .g) i (k .conductance) ∙ d .g;
-      y = length-set (t .y) i (k .offset) ∙ d .y;
+      matrix = matrix-long (rowAt s l (k .start)) (rowAt s l (k .end)) c (a .matrix) ∙ d .matrix;
+      rhs = row-long (rowAt s l (k .start)) (rowAt s l (k .end)) c (getD (v .flows) j nan) (fixedNode s l (k .start)) (fixedNode s l (k .end)) (getD (v .heads) (k .start) nan) (getD (v .heads) (k .end) nan) (a .rhs) ∙ d .rhs;
+      g = length-set (a .g) j (c .conductance) ∙ d .g;
+      y = length-set (a .y) j (c .offset) ∙ d .y;
     }
 
-pub link-long : (s : List ℕ) (c : Columns) (l : Link) (i : ℕ) (t t₀ : System) → SameLengths t t₀ → SameLengths (linkOf s c l i t) t₀
-unfolding linkOf
-link-long s c l i t t₀ d = go (enabled s (l .start) && enabled s (l .end))
+pub link-long : (s : List ℕ) (l : Layout) (v : View) (k : Link) (j : ℕ) (a a₀ : System) → SameLengths a a₀ → SameLengths (linkAdded s l v k j a) a₀
+unfolding linkAdded
+link-long s l v k j a a₀ d = go (enabled s l (k .start) && enabled s l (k .end))
   where
-    go : (b : Bool) → SameLengths (cond b (linkIn s c l (coefficientsAt s (c .flows) (c .statuses) (c .excess) l i) i t) t) t₀
-    go true = link-in-long s c l (coefficientsAt s (c .flows) (c .statuses) (c .excess) l i) i t t₀ d
+    go : (b : Bool) → SameLengths (cond b (linkPlaced s l v k (coefficientsAt s l (v .flows) (v .statuses) (v .excess) k j) j a) a) a₀
+    go true = link-placed-long s l v k (coefficientsAt s l (v .flows) (v .statuses) (v .excess) k j) j a a₀ d
     go false = d

@@ -1,2 +1,2 @@
 -- The specs of `link_rows`.
-pub mod Links
+pub mod LinkRows

@@ -1,92 +1,91 @@
 // One link's part of the matrix and the right side, with its coefficients and its ends' rows.
 ghost use mathlib.Core.Path.{_≡_};
-ghost use Prim.Native.Nat.{_<_, _≤_, _+_};
+ghost use Prim.Native.Nat.{_<_, _≤_};
 ghost use lib.ListN.{length};
-ghost use Rattle.power.specs.Tables.{tableA, tableB};
-ghost use Rattle.records.specs.Offsets.{nodeOffset, linkOffset};
-ghost use Rattle.records.specs.Records.{linkAt};
-ghost use Rattle.link_rows.specs.Links.{system, Given, Sized, columns, coefficientsAt, linkIn, linkOf};
+ghost use Rattle.power.specs.Tables.{powerTable};
+ghost use Rattle.layout.specs.Places.{Laid};
+ghost use Rattle.links.specs.Links.{linkOf};
+ghost use Rattle.link_rows.specs.LinkRows.{system, Given, Sized, view, coefficientsAt, linkPlaced, linkAdded};
+use codes::status_of;
 use coefficient::Coefficients;
+use layout::Layout;
+use links::link;
+use nodes::NodeIndex;
 use nodes::elevation;
 use nodes::is_enabled;
 use nodes::is_fixed;
-use numbering::NodeIndex;
 use numbering::unknown_of;
 use records::Link;
-use records::link_at;
-use records::link_offset;
-use records::status_of;
 use scatter::link_into_matrix;
 use scatter::link_into_row;
 
 // The coefficients of a link at its flow and status.
 fn coefficients_at(
     sheet: &[u8],
-    nodes: usize,
-    link: Link,
-    i: usize,
+    l: Layout,
+    table: &[u64; 1153],
+    k: Link,
+    j: usize,
     flows: &[f64],
     statuses: &[u8],
     excess: &[f64],
-    a: &[u64; 1025],
-    b: &[u64; 128],
 ) -> Coefficients
-    requires { ⌜ (nodeOffset nodes ≤ length (now sheet)) × ((nodes ≤ length (now excess)) × ((i < length (now flows)) × (i < length (now statuses)))) ⌝ }
-    requires { ⌜ (link .start < nodes) × (link .end < nodes) ⌝ }
-    requires { ⌜ (now a ≡ tableA) × (now b ≡ tableB) ⌝ }
-    ensures { λ r. ⌜ r ≡ coefficientsAt (now (sheet .entry)) (now (flows .entry)) (now (statuses .entry)) (now (excess .entry)) link i ⌝ }
+    requires { ⌜ Laid l (now sheet) ⌝ }
+    requires { ⌜ (l .nodes ≤ length (now excess)) × ((j < length (now flows)) × (j < length (now statuses))) ⌝ }
+    requires { ⌜ (k .start < l .nodes) × (k .end < l .nodes) ⌝ }
+    requires { ⌜ now table ≡ powerTable ⌝ }
+    ensures { λ r. ⌜ r ≡ coefficientsAt (now (sheet .entry)) l (now (flows .entry)) (now (statuses .entry)) (now (excess .entry)) k j ⌝ }
 {
-    let start = link.start;
-    let end = link.end;
-    let up = elevation(sheet, start);
-    let down = elevation(sheet, end);
-    let status = status_of(statuses[i]);
+    let start = k.start;
+    let end = k.end;
+    let up = elevation(sheet, l, start);
+    let down = elevation(sheet, l, end);
+    let status = status_of(statuses[j]);
     model::coefficients(
-        link,
+        k,
         status,
-        flows[i],
+        flows[j],
         excess[start],
         excess[end],
         up,
         down,
-        a,
-        b,
+        table,
     )
 }
 
 // A link in service, with its coefficients.
 fn place_link(
     sheet: &[u8],
-    nodes: usize,
-    link: Link,
+    l: Layout,
+    unknowns: &[usize],
+    k: Link,
     c: Coefficients,
-    i: usize,
+    j: usize,
     heads: &[f64],
     flows: &[f64],
     statuses: &[u8],
     excess: &[f64],
-    unknowns: &[usize],
     matrix: &mut [f64],
     rhs: &mut [f64],
     g: &mut [f64],
     y: &mut [f64],
 )
-    requires { ⌜ Given nodes (i + 1) (now sheet) (now unknowns) (columns (now heads) (now flows) (now statuses) (now excess)) ⌝ }
-    requires { ⌜ Sized (i + 1) (system (now matrix) (now rhs) (now g) (now y)) ⌝ }
-    requires { ⌜ (link .start < nodes) × (link .end < nodes) ⌝ }
-    ensures { λ _. ⌜ system (now (matrix .exit)) (now (rhs .exit)) (now (g .exit)) (now (y .exit)) ≡ linkIn (now (sheet .entry)) (columns (now (heads .entry)) (now (flows .entry)) (now (statuses .entry)) (now (excess .entry))) link c i (system (now (matrix .entry)) (now (rhs .entry)) (now (g .entry)) (now (y .entry))) ⌝ }
+    requires { ⌜ Given l (now sheet) (now unknowns) (view (now heads) (now flows) (now statuses) (now excess)) ⌝ }
+    requires { ⌜ Sized l (system (now matrix) (now rhs) (now g) (now y)) ⌝ }
+    requires { ⌜ (j < l .links) × ((k .start < l .nodes) × (k .end < l .nodes)) ⌝ }
+    ensures { λ _. ⌜ system (now (matrix .exit)) (now (rhs .exit)) (now (g .exit)) (now (y .exit)) ≡ linkPlaced (now (sheet .entry)) l (view (now (heads .entry)) (now (flows .entry)) (now (statuses .entry)) (now (excess .entry))) k c j (system (now (matrix .entry)) (now (rhs .entry)) (now (g .entry)) (now (y .entry))) ⌝ }
 {
-    let start = link.start;
-    let end = link.end;
+    let start = k.start;
+    let end = k.end;
     let u = unknown_of(unknowns, NodeIndex(start));
     let v = unknown_of(unknowns, NodeIndex(end));
-    let fixed_start = is_fixed(sheet, start);
-    let fixed_end = is_fixed(sheet, end);
-    let q = flows[i];
+    let fixed_start = is_fixed(sheet, l, start);
+    let fixed_end = is_fixed(sheet, l, end);
+    let q = flows[j];
     let head_start = heads[start];
     let head_end = heads[end];
-    g[i] = c.conductance;
-    y[i] = c.offset;
+    g[j] = c.conductance;
+    y[j] = c.offset;
     link_into_matrix(u, v, c, matrix);
     link_into_row(
         u,
@@ -104,41 +103,40 @@ fn place_link(
 // One link, which changes nothing where a node at an end is disabled.
 pub fn add_link(
     sheet: &[u8],
-    nodes: usize,
-    i: usize,
+    l: Layout,
+    unknowns: &[usize],
+    table: &[u64; 1153],
+    j: usize,
     heads: &[f64],
     flows: &[f64],
     statuses: &[u8],
     excess: &[f64],
-    unknowns: &[usize],
-    a: &[u64; 1025],
-    b: &[u64; 128],
     matrix: &mut [f64],
     rhs: &mut [f64],
     g: &mut [f64],
     y: &mut [f64],
 )
-    requires { ⌜ Given nodes (i + 1) (now sheet) (now unknowns) (columns (now heads) (now flows) (now statuses) (now excess)) ⌝ }
-    requires { ⌜ Sized (i + 1) (system (now matrix) (now rhs) (now g) (now y)) ⌝ }
-    requires { ⌜ (now a ≡ tableA) × (now b ≡ tableB) ⌝ }
-    ensures { λ _. ⌜ system (now (matrix .exit)) (now (rhs .exit)) (now (g .exit)) (now (y .exit)) ≡ linkOf (now (sheet .entry)) (columns (now (heads .entry)) (now (flows .entry)) (now (statuses .entry)) (now (excess .entry))) (linkAt (now (sheet .entry)) (linkOffset nodes i)) i (system (now (matrix .entry)) (now (rhs .entry)) (now (g .entry)) (now (y .entry))) ⌝ }
+    requires { ⌜ Given l (now sheet) (now unknowns) (view (now heads) (now flows) (now statuses) (now excess)) ⌝ }
+    requires { ⌜ Sized l (system (now matrix) (now rhs) (now g) (now y)) ⌝ }
+    requires { ⌜ (now table ≡ powerTable) × (j < l .links) ⌝ }
+    ensures { λ _. ⌜ system (now (matrix .exit)) (now (rhs .exit)) (now (g .exit)) (now (y .exit)) ≡ linkAdded (now (sheet .entry)) l (view (now (heads .entry)) (now (flows .entry)) (now (statuses .entry)) (now (excess .entry))) (linkOf (now (sheet .entry)) l j) j (system (now (matrix .entry)) (now (rhs .entry)) (now (g .entry)) (now (y .entry))) ⌝ }
 {
-    let link = link_at(sheet, link_offset(nodes, i));
-    let start = link.start;
-    let end = link.end;
-    if is_enabled(sheet, start) & is_enabled(sheet, end) {
-        let c = coefficients_at(sheet, nodes, link, i, flows, statuses, excess, a, b);
+    let k = link(sheet, l, j);
+    let start = k.start;
+    let end = k.end;
+    if is_enabled(sheet, l, start) & is_enabled(sheet, l, end) {
+        let c = coefficients_at(sheet, l, table, k, j, flows, statuses, excess);
         place_link(
             sheet,
-            nodes,
-            link,
+            l,
+            unknowns,
+            k,
             c,
-            i,
+            j,
             heads,
             flows,
             statuses,
             excess,
-            unknowns,
             matrix,
             rhs,
             g,

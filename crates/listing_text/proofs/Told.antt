@@ -10,7 +10,7 @@ use lib.Ieee.{Float}
 use Rattle.sheet.specs.Read.{readOf}
 use Rattle.sheet.specs.declared.reading.Reading.{Reading}
 use Rattle.sheet.specs.declared.reading.Reading.the-variants.{Good, Refused}
-use Rattle.sheet.specs.declared.reading.Net.{Net}
+use Rattle.layout.specs.declared.places.Layout.{Layout}
 use Rattle.refusals.specs.declared.refusals.Refusal.{Refusal}
 use Rattle.answers.specs.Answers.{Solved}
 use Rattle.answers.specs.declared.Answer.{Answer}
@@ -23,7 +23,7 @@ module _ (reading : Reading) (a : Answer) (h d q : List Float) (codes entries : 
   no-results : (a .number ≡ 0 → ⊥) → (x : Reading) → resultsFor x a h d q codes ≡ []
   unfolding resultsFor
   no-results ne (Refused r) = refl
-  no-results ne (Good net) = rw (ne-eqb (a .number) 0 ne)
+  no-results ne (Good l) = rw (ne-eqb (a .number) 0 ne)
 
   head-alone : resultsFor reading a h d q codes ≡ [] → Put old 0 (linesOf reading a h d q codes entries) mid p
   unfolding linesOf
@@ -36,9 +36,9 @@ module _ (reading : Reading) (a : Answer) (h d q : List Float) (codes entries : 
   unfolding resultsFor
   told-unread r e = head-alone (rw e)
 
-  pub told-all : {new : List ℕ} {n : ℕ} (net : Net) → reading ≡ Good net → a .number ≡ 0 → Put mid p (resultLines net a h d q codes) new n → Put old 0 (linesOf reading a h d q codes entries) new n
+  pub told-all : {new : List ℕ} {n : ℕ} (l : Layout) → reading ≡ Good l → a .number ≡ 0 → Put mid p (resultLines l a h d q codes) new n → Put old 0 (linesOf reading a h d q codes entries) new n
   unfolding linesOf resultsFor
-  told-all net e z results = rw (e, eq-eqb (a .number) 0 z) (then head results)
+  told-all l e z results = rw (e, eq-eqb (a .number) 0 z) (then head results)
 
 pub listed : (s : List ℕ) (o : Solved) {old new : List ℕ} {n : ℕ} → o ≡ solveOf s blank
     → Put old 0 (linesOf (readOf s) (o .answer) (o .lent .heads) (o .lent .demands) (o .lent .flows) (o .lent .statuses) (o .lent .entries)) new n

@@ -5,11 +5,11 @@ use mathlib.Core.List.{List}
 use native.Mathlib.Omega.{arith}
 use lib.ListN.{length}
 use Rattle.sheet.specs.Read.{readOf}
-use Rattle.sheet.specs.declared.layout.Found.{Found}
-use Rattle.sheet.specs.declared.layout.Found.the-variants.{At, Nothing}
+use Rattle.found.specs.declared.Found.{Found}
+use Rattle.found.specs.declared.Found.the-variants.{At, Nothing}
 use Rattle.sheet.specs.declared.reading.Reading.{Reading}
 use Rattle.sheet.specs.declared.reading.Reading.the-variants.{Good, Refused}
-use Rattle.sheet.specs.declared.reading.Net.{Net}
+use Rattle.layout.specs.declared.places.Layout.{Layout}
 use Rattle.state.specs.State.{State}
 use Rattle.trial.specs.Trial.{Repair}
 use Rattle.entries.specs.Entries.{none, dampingStart}
@@ -18,41 +18,41 @@ use Rattle.entries.specs.declared.Ended.the-variants.{Balanced, Failed, Strayed
 use Rattle.entries.specs.declared.Tally.{Tally}
 use Rattle.runs.specs.Run.{runWith, finish}
 use Rattle.runs.proofs.Laws.{tallied-trials, run-length}
-use Rattle.answers.specs.Answers.{Lent, shortOf, refusedOf, failedOf}
+use Rattle.answers.specs.Answers.{Lent, tooShort, refusedOf, failedOf}
 use Rattle.conclusion.specs.Conclusion.{unsolved, delivered, told}
 use Rattle.solver.specs.Solve.{trialsOf, startOf, runOf, solvedWith, afterShort, afterRead, solveWith}
 use Rattle.solver.proofs.Laws.{few-trials}
 
-told-trials : (s : List ℕ) (net : Net) (trials : ℕ) (l : Lent) (t : State) (tally : Tally) (bytes : List ℕ) (ended : Ended) → told s net trials l t tally bytes ended .answer .trials ≡ tally .trials
+told-trials : (s : List ℕ) (l : Layout) (trials : ℕ) (b : Lent) (t : State) (tally : Tally) (bytes : List ℕ) (ended : Ended) → told s l trials b t tally bytes ended .answer .trials ≡ tally .trials
 unfolding told delivered unsolved failedOf
-told-trials s net trials l t tally bytes Balanced = refl
-told-trials s net trials l t tally bytes (Failed node) = refl
-told-trials s net trials l t tally bytes (Strayed place) = refl
-told-trials s net trials l t tally bytes Limit = refl
+told-trials s l trials b t tally bytes Balanced = refl
+told-trials s l trials b t tally bytes (Failed node) = refl
+told-trials s l trials b t tally bytes (Strayed place) = refl
+told-trials s l trials b t tally bytes Limit = refl
 
-run-trials : (repair : Repair) (s : List ℕ) (net : Net) (bytes : List ℕ) → runOf repair s net bytes .ran .tally .trials ≤ trialsOf s
+run-trials : (repair : Repair) (s : List ℕ) (l : Layout) (bytes : List ℕ) → runOf repair s l bytes .ran .tally .trials ≤ trialsOf s
 unfolding runOf finish
-run-trials repair s net bytes =
-    let r = runWith repair s (net .nodes) (net .links) (trialsOf s) dampingStart (startOf s net) in
-    omega (arith, tallied-trials none (r .entries), run-length repair s (net .nodes) (net .links) (trialsOf s) dampingStart (startOf s net))
+run-trials repair s l bytes =
+    let r = runWith repair s l (trialsOf s) dampingStart (startOf s l) in
+    omega (arith, tallied-trials none (r .entries), run-length repair s l (trialsOf s) dampingStart (startOf s l))
 
-solved-trials : (repair : Repair) (s : List ℕ) (net : Net) (l : Lent) → solvedWith repair s net l .answer .trials ≤ trialsOf s
+solved-trials : (repair : Repair) (s : List ℕ) (l : Layout) (b : Lent) → solvedWith repair s l b .answer .trials ≤ trialsOf s
 unfolding solvedWith
-solved-trials repair s net l =
-    let f = runOf repair s net (l .entries) in
-    rw (told-trials s net (trialsOf s) l (f .state) (f .ran .tally) (f .bytes) (f .ran .ended)) (run-trials repair s net (l .entries))
+solved-trials repair s l b =
+    let f = runOf repair s l (b .entries) in
+    rw (told-trials s l (trialsOf s) b (f .state) (f .ran .tally) (f .bytes) (f .ran .ended)) (run-trials repair s l (b .entries))
 
-short-trials : (repair : Repair) (s : List ℕ) (net : Net) (l : Lent) (f : Found) → afterShort repair s net l f .answer .trials ≤ trialsOf s
+short-trials : (repair : Repair) (s : List ℕ) (l : Layout) (b : Lent) (f : Found) → afterShort repair s l b f .answer .trials ≤ trialsOf s
 unfolding afterShort refusedOf failedOf
-short-trials repair s net l (At place) = omega arith
-short-trials repair s net l Nothing = solved-trials repair s net l
+short-trials repair s l b (At place) = omega arith
+short-trials repair s l b Nothing = solved-trials repair s l b
 
-read-trials : (repair : Repair) (s : List ℕ) (l : Lent) (reading : Reading) → reading ≡ readOf s → afterRead repair s l reading .answer .trials ≤ 200
+read-trials : (repair : Repair) (s : List ℕ) (b : Lent) (reading : Reading) → reading ≡ readOf s → afterRead repair s b reading .answer .trials ≤ 200
 unfolding afterRead refusedOf failedOf
-read-trials repair s l (Refused r) e = omega arith
-read-trials repair s l (Good net) e =
-    omega (arith, few-trials s net (sym e), short-trials repair s net l (shortOf net (trialsOf s) (length (l .heads)) (length (l .demands)) (length (l .flows)) (length (l .statuses)) (length (l .entries)) (length (l .scratch))))
+read-trials repair s b (Refused r) e = omega arith
+read-trials repair s b (Good l) e =
+    omega (arith, few-trials s l (sym e), short-trials repair s l b (tooShort l (trialsOf s) (length (b .heads)) (length (b .demands)) (length (b .flows)) (length (b .statuses)) (length (b .entries)) (length (b .scratch))))
 
-pub solve-trials : (repair : Repair) (s : List ℕ) (l : Lent) → solveWith repair s l .answer .trials ≤ 200
+pub solve-trials : (repair : Repair) (s : List ℕ) (b : Lent) → solveWith repair s b .answer .trials ≤ 200
 unfolding solveWith
-solve-trials repair s l = read-trials repair s l (readOf s) refl
+solve-trials repair s b = read-trials repair s b (readOf s) refl

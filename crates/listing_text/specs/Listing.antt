@@ -8,7 +8,7 @@ use lib.Ieee.{Float}
 use Rattle.sheet.specs.Read.{readOf}
 use Rattle.sheet.specs.declared.reading.Reading.{Reading}
 use Rattle.sheet.specs.declared.reading.Reading.the-variants.{Good, Refused}
-use Rattle.sheet.specs.declared.reading.Net.{Net}
+use Rattle.layout.specs.declared.places.Layout.{Layout}
 use Rattle.columns.specs.Columns.{zeros}
 use Rattle.answers.specs.Answers.{Lent, lent}
 use Rattle.answers.specs.declared.Answer.{Answer}
@@ -21,15 +21,15 @@ unfoldable pub headLines : Answer → List ℕ → List ℕ
 headLines a entries = answerLine (a .number) (a .place) (a .trials) (a .freed) (a .grounded) ++ recordLines entries (a .trials)
 
 -- N for each node, L for each link, then B
-unfoldable pub resultLines : Net → Answer → List Float → List Float → List Float → List ℕ → List ℕ
-resultLines net a heads demands flows statuses =
-    nodeLines heads demands (net .nodes) ++ linkLines flows statuses (net .links) ++ balanceLine (a .demand) (a .supply) (a .error)
+unfoldable pub resultLines : Layout → Answer → List Float → List Float → List Float → List ℕ → List ℕ
+resultLines l a heads demands flows statuses =
+    nodeLines heads demands (l .nodes) ++ linkLines flows statuses (l .links) ++ balanceLine (a .demand) (a .supply) (a .error)
 
 -- results for number 0 alone, of a sheet that was read
 unfoldable pub resultsFor : Reading → Answer → List Float → List Float → List Float → List ℕ → List ℕ
 unfolding resultLines
 resultsFor (Refused r) a heads demands flows statuses = []
-resultsFor (Good net) a heads demands flows statuses = cond (eqb (a .number) 0) (resultLines net a heads demands flows statuses) []
+resultsFor (Good l) a heads demands flows statuses = cond (eqb (a .number) 0) (resultLines l a heads demands flows statuses) []
 
 -- all lines, of a reading, an answer and what was lent after it
 unfoldable pub linesOf : Reading → Answer → List Float → List Float → List Float → List ℕ → List ℕ → List ℕ

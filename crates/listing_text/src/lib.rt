@@ -6,7 +6,7 @@ ghost use Rattle.sheet.specs.Read.{readOf};
 ghost use Rattle.words.specs.Buffer.{placed, Put};
 ghost use Rattle.listing_text.specs.Listing.{headLines, resultLines, linesOf, listingOf};
 use answers::Answer;
-use sheet::Net;
+use layout::Layout;
 use sheet::Reading;
 
 fn head_lines(a: Answer, entries: &[u8], out: &mut [u8]) -> usize
@@ -19,7 +19,7 @@ fn head_lines(a: Answer, entries: &[u8], out: &mut [u8]) -> usize
 }
 
 fn result_lines(
-    net: Net,
+    l: Layout,
     a: Answer,
     heads: &[f64],
     demands: &[f64],
@@ -28,13 +28,13 @@ fn result_lines(
     out: &mut [u8],
     at: usize,
 ) -> usize
-    requires { ⌜ (net .nodes ≤ 64) × (net .links ≤ 128) × (at ≤ 25728) × (65536 ≤ length (now out)) ⌝ }
+    requires { ⌜ (l .nodes ≤ 64) × (l .links ≤ 128) × (at ≤ 25728) × (65536 ≤ length (now out)) ⌝ }
     requires { ⌜ (64 ≤ length (now heads)) × (64 ≤ length (now demands)) × (128 ≤ length (now flows)) × (128 ≤ length (now statuses)) ⌝ }
-    ensures { λ r. ⌜ Put (now (out .entry)) at (resultLines net a (now (heads .entry)) (now (demands .entry)) (now (flows .entry)) (now (statuses .entry))) (now (out .exit)) r ⌝ }
+    ensures { λ r. ⌜ Put (now (out .entry)) at (resultLines l a (now (heads .entry)) (now (demands .entry)) (now (flows .entry)) (now (statuses .entry))) (now (out .exit)) r ⌝ }
     ensures { λ r. ⌜ r ≤ 50432 ⌝ }
 {
-    let mut p = results::node_lines(heads, demands, net.nodes, out, at);
-    p = results::link_lines(flows, statuses, net.links, out, p);
+    let mut p = results::node_lines(heads, demands, l.nodes, out, at);
+    p = results::link_lines(flows, statuses, l.links, out, p);
     results::balance_line(a.demand, a.supply, a.error, out, p)
 }
 
@@ -59,7 +59,7 @@ fn tell(
         return at;
     }
     match sheet::read(sheet) {
-        Reading::Good(net) => result_lines(net, a, heads, demands, flows, statuses, out, at),
+        Reading::Good(l) => result_lines(l, a, heads, demands, flows, statuses, out, at),
         Reading::Refused(_) => at,
     }
 }

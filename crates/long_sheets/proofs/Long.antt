@@ -7,12 +7,12 @@ use native.Mathlib.Omega.{arith}
 use borrow.Author.Tests.{eqb-true, eqb-false, leb-true, lt-leb, ltb-true, ltb-false, eq-eqb, ne-eqb}
 use lib.Dec.{eqb, leb, ltb}
 use lib.ListN.{length, getD, drop}
-use Rattle.offsets.specs.Offsets.{nodeOffset, linkOffset}
+use Rattle.layout.specs.Places.{nodeOffset, linkOffset, plain, linkPlace}
 use Rattle.refusals.specs.declared.refusals.Refusal.{Refusal}
 use Rattle.refusals.specs.declared.refusals.Refusal.the-variants.{Unreadable, NodeCount, LinkCount}
 use Rattle.fields.specs.Fields.{baseBounds}
-use Rattle.sheet.specs.Layout.{readable, runOf, hasOptions, nodesOf, linksOf, endOf}
-use Rattle.sheet.specs.Read.{checked, counted, readWith, readOf}
+use Rattle.sheet.specs.Scan.{readable, recordsFrom, hasOptions, nodesOf, linksOf, layoutOf, endOf}
+use Rattle.sheet.specs.Read.{checked, afterScan, readWith, readOf}
 use Rattle.sheet.specs.declared.reading.Reading.{Reading}
 use Rattle.sheet.specs.declared.reading.Reading.the-variants.{Refused}
 use Rattle.sheet.proofs.Laws.{fits, too-short, run-end, run-fits, and-left, and-right}
@@ -43,15 +43,15 @@ links-over : (s : List ℕ) (n k at : ℕ) → length s ≤ at → refusalOf (fe
 unfolding refusalOf endInLinks
 links-over s n k at h = ap refusalOf (fed-none s (Links n k 0) at h)
 
-links-end : (s : List ℕ) (fuel n k at : ℕ) → at ≤ length s → length s ≤ at + fuel → LinksEnd s n k at (runOf 76 75 49 fuel s at)
-unfolding runOf
+links-end : (s : List ℕ) (fuel n k at : ℕ) → at ≤ length s → length s ≤ at + fuel → LinksEnd s n k at (recordsFrom 76 75 49 fuel s at)
+unfolding recordsFrom
 links-end s zero n k at h f = (λ e. links-over s n k at (omega arith), λ ne. absurd (ne (omega arith)))
 links-end s (suc fuel) n k at h f = go (readable 76 75 49 s at) refl (links-end s fuel n (k + 1) (at + 49))
   where
-    go : (b : Bool) → readable 76 75 49 s at ≡ b → (at + 49 ≤ length s → length s ≤ at + 49 + fuel → LinksEnd s n (k + 1) (at + 49) (runOf 76 75 49 fuel s (at + 49)))
-        → LinksEnd s n k at (cond {A = ℕ} b (suc (runOf 76 75 49 fuel s (at + 49))) 0)
+    go : (b : Bool) → readable 76 75 49 s at ≡ b → (at + 49 ≤ length s → length s ≤ at + 49 + fuel → LinksEnd s n (k + 1) (at + 49) (recordsFrom 76 75 49 fuel s (at + 49)))
+        → LinksEnd s n k at (cond {A = ℕ} b (suc (recordsFrom 76 75 49 fuel s (at + 49))) 0)
     go true e rest =
-        let r = runOf 76 75 49 fuel s (at + 49) in
+        let r = recordsFrom 76 75 49 fuel s (at + 49) in
         let w = rest (fits 76 75 49 s at e) (omega arith) in
         let q : k + 1 + r ≡ k + suc r = omega arith in
         let p = ap refusalOf (links-read n k s at e) in
@@ -67,10 +67,10 @@ record NodesEnd (s : List ℕ) (n at m j : ℕ) : Type 0 where
   some : at + 45 * m + 49 * j ≡ length s → (j ≡ 0 → ⊥) → refusalOf (fedOf (Nodes n 0) (drop at s)) ≡ many (n + m)
   broken : (at + 45 * m + 49 * j ≡ length s → ⊥) → refusalOf (fedOf (Nodes n 0) (drop at s)) ≡ Unreadable (linkOffset (n + m) j)
 
-no-links : (s : List ℕ) (at : ℕ) → (getD s at 0 ≡ 76 → ⊥) → runOf 76 75 49 (length s) s at ≡ 0
+no-links : (s : List ℕ) (at : ℕ) → (getD s at 0 ≡ 76 → ⊥) → recordsFrom 76 75 49 (length s) s at ≡ 0
 no-links s at ne = go (readable 76 75 49 s at) refl
   where
-    go : (b : Bool) → readable 76 75 49 s at ≡ b → runOf 76 75 49 (length s) s at ≡ 0
+    go : (b : Bool) → readable 76 75 49 s at ≡ b → recordsFrom 76 75 49 (length s) s at ≡ 0
     go true e = absurd (ne (marked 76 75 49 s at e .1 .0))
     go false e = run-end 76 75 49 (length s) s at e
 
@@ -78,7 +78,7 @@ nodes-over : (s : List ℕ) (n at : ℕ) → length s ≤ at → refusalOf (fedO
 unfolding refusalOf endInNodes
 nodes-over s n at h = ap refusalOf (fed-none s (Nodes n 0) at h)
 
-nodes-last : (s : List ℕ) (n at j : ℕ) → at ≤ length s → readable 78 68 45 s at ≡ false → j ≡ runOf 76 75 49 (length s) s at → NodesEnd s n at 0 j
+nodes-last : (s : List ℕ) (n at j : ℕ) → at ≤ length s → readable 78 68 45 s at ≡ false → j ≡ recordsFrom 76 75 49 (length s) s at → NodesEnd s n at 0 j
 nodes-last s n at j h u ej = go (ltb at (length s)) refl (eqb (getD s at 0) 76) refl (eqb (getD s at 0) 78) refl
   where
     z : n + 0 ≡ n
@@ -92,7 +92,7 @@ nodes-last s n at j h u ej = go (ltb at (length s)) refl (eqb (getD s at 0) 76) 
     go true e true ex y ey =
         let l = ltb-true at (length s) e in
         let w = links-end s (length s) n 0 at h (omega arith) in
-        let y₀ : 0 + runOf 76 75 49 (length s) s at ≡ runOf 76 75 49 (length s) s at = omega arith in
+        let y₀ : 0 + recordsFrom 76 75 49 (length s) s at ≡ recordsFrom 76 75 49 (length s) s at = omega arith in
         let p = ap refusalOf (first-link n s at l (eqb-true (getD s at 0) 76 ex)) in
         record {
           none = λ a b. absurd (let v : ⊥ = omega (arith, a, b) in v);
@@ -116,18 +116,18 @@ nodes-last s n at j h u ej = go (ltb at (length s)) refl (eqb (getD s at 0) 76) 
           broken = λ a. rw (z, r) (nodes-none n s at l (eqb-false (getD s at 0) 78 ey) (eqb-false (getD s at 0) 76 ex) ∙ (let q : nodeOffset n ≡ linkOffset n 0 = omega arith in ap Unreadable q));
         }
 
-nodes-end : (s : List ℕ) (fuel n at p j : ℕ) → at ≤ length s → length s ≤ at + fuel → p ≡ at + 45 * runOf 78 68 45 fuel s at → j ≡ runOf 76 75 49 (length s) s p → NodesEnd s n at (runOf 78 68 45 fuel s at) j
-unfolding runOf
+nodes-end : (s : List ℕ) (fuel n at p j : ℕ) → at ≤ length s → length s ≤ at + fuel → p ≡ at + 45 * recordsFrom 78 68 45 fuel s at → j ≡ recordsFrom 76 75 49 (length s) s p → NodesEnd s n at (recordsFrom 78 68 45 fuel s at) j
+unfolding recordsFrom
 nodes-end s zero n at p j h f ep ej =
     let q : p ≡ at = omega arith in
     nodes-last s n at j h (too-short 78 68 45 s at (omega arith)) (rw q at ej)
 nodes-end s (suc fuel) n at p j h f ep ej = go (readable 78 68 45 s at) refl ep (nodes-end s fuel (n + 1) (at + 45) p j)
   where
-    go : (b : Bool) → readable 78 68 45 s at ≡ b → p ≡ at + 45 * cond {A = ℕ} b (suc (runOf 78 68 45 fuel s (at + 45))) 0
-        → (at + 45 ≤ length s → length s ≤ at + 45 + fuel → p ≡ at + 45 + 45 * runOf 78 68 45 fuel s (at + 45) → j ≡ runOf 76 75 49 (length s) s p → NodesEnd s (n + 1) (at + 45) (runOf 78 68 45 fuel s (at + 45)) j)
-        → NodesEnd s n at (cond {A = ℕ} b (suc (runOf 78 68 45 fuel s (at + 45))) 0) j
+    go : (b : Bool) → readable 78 68 45 s at ≡ b → p ≡ at + 45 * cond {A = ℕ} b (suc (recordsFrom 78 68 45 fuel s (at + 45))) 0
+        → (at + 45 ≤ length s → length s ≤ at + 45 + fuel → p ≡ at + 45 + 45 * recordsFrom 78 68 45 fuel s (at + 45) → j ≡ recordsFrom 76 75 49 (length s) s p → NodesEnd s (n + 1) (at + 45) (recordsFrom 78 68 45 fuel s (at + 45)) j)
+        → NodesEnd s n at (cond {A = ℕ} b (suc (recordsFrom 78 68 45 fuel s (at + 45))) 0) j
     go true e ep rest =
-        let r = runOf 78 68 45 fuel s (at + 45) in
+        let r = recordsFrom 78 68 45 fuel s (at + 45) in
         let w = rest (fits 78 68 45 s at e) (omega arith) (omega (arith, ep)) ej in
         let q : n + 1 + r ≡ n + suc r = omega arith in
         let t = ap refusalOf (nodes-read n s at e) in
@@ -150,46 +150,46 @@ no-options s l h = go (eqb (getD s 0 0) 79) refl
     go false e = options-none s 0 (omega arith) (eqb-false (getD s 0 0) 79 e)
 
 -- too many records are a wrong count
-many-counted : (s : List ℕ) (n k : ℕ) → 9181 < 29 + 45 * n + 49 * k → (k ≡ 0 → ⊥) → counted baseBounds n k s ≡ Refused (many n)
-unfolding counted baseBounds
+many-counted : (s : List ℕ) (n k : ℕ) → 9181 < 29 + 45 * n + 49 * k → (k ≡ 0 → ⊥) → afterScan baseBounds (plain n k 0) s ≡ Refused (many n)
+unfolding afterScan baseBounds
 many-counted s n k l ne = go (leb 1 n && leb n 64) refl
   where
-    go : (b : Bool) → (leb 1 n && leb n 64) ≡ b → counted baseBounds n k s ≡ Refused (many n)
+    go : (b : Bool) → (leb 1 n && leb n 64) ≡ b → afterScan baseBounds (plain n k 0) s ≡ Refused (many n)
     go true e =
         let few = leb-true n 64 (and-right (leb 1 n) (leb n 64) e) in
         rw (e, lt-leb k 128 (omega arith))
     go false e = rw e
 
-nodes-counted : (s : List ℕ) (n k : ℕ) → 9181 < 29 + 45 * n + 49 * k → k ≡ 0 → counted baseBounds n k s ≡ Refused NodeCount
-unfolding counted baseBounds
+nodes-counted : (s : List ℕ) (n k : ℕ) → 9181 < 29 + 45 * n + 49 * k → k ≡ 0 → afterScan baseBounds (plain n k 0) s ≡ Refused NodeCount
+unfolding afterScan baseBounds
 nodes-counted s n k l e = go (leb 1 n)
   where
-    go : (b : Bool) → cond (b && leb n 64) (cond (leb k 128) (checked baseBounds n k s) (Refused LinkCount)) (Refused NodeCount) ≡ Refused NodeCount
+    go : (b : Bool) → cond (b && leb n 64) (cond (leb k 128) (checked baseBounds (plain n k 0) s) (Refused LinkCount)) (Refused NodeCount) ≡ Refused NodeCount
     go true = rw (lt-leb n 64 (omega arith))
     go false = refl
 
 pub long-refused : (s : List ℕ) → 9181 < length s → readOf s ≡ Refused (refusalOf (fedOf (Options 0) s))
-unfolding readOf readWith hasOptions nodesOf linksOf endOf
+unfolding readOf readWith hasOptions nodesOf linksOf layoutOf endOf linkPlace
 long-refused s l = options (readable 79 80 29 s 0) refl
   where
     n : ℕ
-    n = runOf 78 68 45 (length s) s 29
+    n = recordsFrom 78 68 45 (length s) s 29
 
     k : ℕ
-    k = runOf 76 75 49 (length s) s (nodeOffset n)
+    k = recordsFrom 76 75 49 (length s) s (nodeOffset n)
 
     n₀ : 0 + n ≡ n
     n₀ = omega arith
 
     counts : readable 79 80 29 s 0 ≡ true → (b : Bool) → eqb (linkOffset n k) (length s) ≡ b → (c : Bool) → eqb k 0 ≡ c
-        → cond b (counted baseBounds n k s) (Refused (Unreadable (linkOffset n k))) ≡ Refused (refusalOf (fedOf (Options 0) (drop 0 s)))
+        → cond b (afterScan baseBounds (plain n k 0) s) (Refused (Unreadable (linkOffset n k))) ≡ Refused (refusalOf (fedOf (Options 0) (drop 0 s)))
     counts h b e c f =
         let w = nodes-end s (length s) 0 29 (nodeOffset n) k (omega arith) (omega arith) refl refl in
         let t = ap refusalOf (options-read s 0 h) in
         pick w t b e c f
       where
         pick : NodesEnd s 0 29 n k → refusalOf (fedOf (Options 0) (drop 0 s)) ≡ refusalOf (fedOf (Nodes 0 0) (drop (0 + 29) s)) → (b : Bool) → eqb (linkOffset n k) (length s) ≡ b → (c : Bool) → eqb k 0 ≡ c
-            → cond b (counted baseBounds n k s) (Refused (Unreadable (linkOffset n k))) ≡ Refused (refusalOf (fedOf (Options 0) (drop 0 s)))
+            → cond b (afterScan baseBounds (plain n k 0) s) (Refused (Unreadable (linkOffset n k))) ≡ Refused (refusalOf (fedOf (Options 0) (drop 0 s)))
         pick w t false e c f = sym (ap Refused (t ∙ w .broken (eqb-false (linkOffset n k) (length s) e) ∙ ap (λ (i : ℕ). Unreadable (linkOffset i k)) n₀))
         pick w t true e true f =
             let x = eqb-true (linkOffset n k) (length s) e in
@@ -200,6 +200,6 @@ long-refused s l = options (readable 79 80 29 s 0) refl
             let z = eqb-false k 0 f in
             many-counted s n k (omega (arith, x, l)) z ∙ sym (ap Refused (t ∙ w .some x z ∙ ap (λ (i : ℕ). many i) n₀))
 
-    options : (b : Bool) → readable 79 80 29 s 0 ≡ b → cond b (cond (eqb (linkOffset n k) (length s)) (counted baseBounds n k s) (Refused (Unreadable (linkOffset n k)))) (Refused (Unreadable 0)) ≡ Refused (refusalOf (fedOf (Options 0) (drop 0 s)))
+    options : (b : Bool) → readable 79 80 29 s 0 ≡ b → cond b (cond (eqb (linkOffset n k) (length s)) (afterScan baseBounds (plain n k 0) s) (Refused (Unreadable (linkOffset n k)))) (Refused (Unreadable 0)) ≡ Refused (refusalOf (fedOf (Options 0) (drop 0 s)))
     options true e = counts e (eqb (linkOffset n k) (length s)) refl (eqb k 0) refl
     options false e = sym (ap Refused (no-options s l e))

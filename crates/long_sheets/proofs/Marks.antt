@@ -7,9 +7,9 @@ use native.Mathlib.Omega.{arith}
 use borrow.Author.Tests.{eq-eqb, ne-eqb, eqb-true, eqb-false}
 use lib.Dec.{eqb}
 use lib.ListN.{length, getD, drop}
-use Rattle.offsets.specs.Offsets.{nodeOffset, linkOffset}
+use Rattle.layout.specs.Places.{nodeOffset, linkOffset}
 use Rattle.refusals.specs.declared.refusals.Refusal.the-variants.{Unreadable}
-use Rattle.sheet.specs.Layout.{readable}
+use Rattle.sheet.specs.Scan.{readable}
 use Rattle.sheet.proofs.Laws.{long-enough, fits, and-left, and-right}
 use Rattle.stream.specs.Stream as spec
 use Rattle.stream.specs.Stream.{stepOf, fedOf, refusalOf, endInNodes, endInLinks, inNodes, inLinks, inOptions}

@@ -3,7 +3,7 @@ ghost use mathlib.Core.Path.{_≡_};
 ghost use Prim.Native.Nat.{_+_, _*_, _<_, _≤_};
 ghost use lib.ListN.{length};
 ghost use Rattle.marks.specs.Marks.{markOf, putOf};
-use repair::Entry;
+use entries::Entry;
 
 // Two letters and a number.
 pub struct Mark(pub u8, pub u8, pub usize);

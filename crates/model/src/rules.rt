@@ -1,6 +1,6 @@
 // One decision over the link's kind: its coefficients.
 ghost use mathlib.Core.Path.{_≡_};
-ghost use Rattle.power.specs.Tables.{tableA, tableB};
+ghost use Rattle.power.specs.Tables.{powerTable};
 ghost use Rattle.model.specs.Rules.{coefficientsOf};
 use coefficient::Coefficients;
 use pipes::pipe_rule;
@@ -18,15 +18,14 @@ pub fn coefficients(
     excess_end: f64,
     elevation_start: f64,
     elevation_end: f64,
-    a: &[u64; 1025],
-    b: &[u64; 128],
+    table: &[u64; 1153],
 ) -> Coefficients
-    requires { ⌜ (now a ≡ tableA) × (now b ≡ tableB) ⌝ }
+    requires { ⌜ now table ≡ powerTable ⌝ }
     ensures { λ r. ⌜ r ≡ coefficientsOf link status q «excess_start» «excess_end» «elevation_start» «elevation_end» ⌝ }
 {
     let kind = link.kind;
     if let LinkKind::Pipe = kind {
-        return pipe_rule(link.check, link.minor, link.resistance, status, q, a, b);
+        return pipe_rule(link.check, link.minor, link.resistance, status, q, table);
     }
     valve_rule(
         link,

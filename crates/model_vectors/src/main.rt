@@ -2,7 +2,7 @@
 // nine f64s, and for each a line with what the function named by the first number gave. Floats are
 // 16 hex digits, `-` stands for an absent part.
 ghost use mathlib.Core.Path.{_≡_};
-ghost use Rattle.power.specs.Tables.{tableA, tableB};
+ghost use Rattle.power.specs.Tables.{powerTable};
 use coefficient::Coefficients;
 use coefficient::NodeAddition;
 use records::Link;
@@ -116,8 +116,8 @@ fn converged_case(c: Case) {
     io::write_all(OUT, b"0");
 }
 
-fn answer(c: Case, a: &[u64; 1025], b: &[u64; 128])
-    requires { ⌜ (now a ≡ tableA) × (now b ≡ tableB) ⌝ }
+fn answer(c: Case, table: &[u64; 1153])
+    requires { ⌜ now table ≡ powerTable ⌝ }
 {
     let what = c.what;
     match what {
@@ -129,8 +129,7 @@ fn answer(c: Case, a: &[u64; 1025], b: &[u64; 128])
             c.x[6],
             c.x[7],
             c.x[8],
-            a,
-            b,
+            table,
         )),
         1 => status_case(c),
         2 => hex(damping::damped(c.x[0], c.x[1], c.x[2], c.x[3])),
@@ -141,25 +140,24 @@ fn answer(c: Case, a: &[u64; 1025], b: &[u64; 128])
 }
 
 // One record, or false where the input has ended.
-fn step(a: &[u64; 1025], b: &[u64; 128]) -> bool
-    requires { ⌜ (now a ≡ tableA) × (now b ≡ tableB) ⌝ }
+fn step(table: &[u64; 1153]) -> bool
+    requires { ⌜ now table ≡ powerTable ⌝ }
 {
     let mut record = [0u8; 76];
     let n = io::read_full(0, &mut record);
     if n < 76 {
         return false;
     }
-    answer(case_of(record), a, b);
+    answer(case_of(record), table);
     true
 }
 
 fn main() {
-    let a = power::table_a();
-    let b = power::table_b();
+    let table = power::power_table();
     let mut left: u32 = 100000;
     while left > 0 {
         left -= 1;
-        if !step(&a, &b) {
+        if !step(&table) {
             return;
         }
     }

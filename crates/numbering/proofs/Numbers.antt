@@ -11,196 +11,150 @@ use native.Mathlib.Omega.{arith}
 use lib.Dec.{T}
 use lib.ListN.{length, getD, set, length-set}
 use lib.Seq.{getD-set-same, getD-set-other}
-use Rattle.sheet.specs.Ends.{inService}
+use Rattle.layout.specs.declared.places.Layout.{Layout}
+use Rattle.nodes.specs.Nodes.{inService, serving}
 use borrow.Author.Tests.{ne-eqb}
-use Rattle.numbering.specs.Numbering.{noUnknown, before, numbered, backs, rowOf}
+use Rattle.numbering.specs.Numbering.{noUnknown, numbered, rowOf}
 use Rattle.numbering.specs.declared.Row.the-variants.{Unknown, Fixed}
 
-module _ (s : List ℕ) where
+module _ (s : List ℕ) (l : Layout) where
   -- ---- one node more
 
-  before-in : (i : ℕ) → inService s i ≡ true → before s (suc i) ≡ suc (before s i)
-  unfolding before
-  before-in i h = rw h
+  serving-in : (i : ℕ) → inService s l i ≡ true → serving s l (suc i) ≡ suc (serving s l i)
+  unfolding serving
+  serving-in i h = rw h
 
-  before-out : (i : ℕ) → inService s i ≡ false → before s (suc i) ≡ before s i
-  unfolding before
-  before-out i h = rw h
+  serving-out : (i : ℕ) → inService s l i ≡ false → serving s l (suc i) ≡ serving s l i
+  unfolding serving
+  serving-out i h = rw h
 
-  numbered-in : (i : ℕ) (l : List ℕ) → inService s i ≡ true → numbered s (suc i) l ≡ set (numbered s i l) i (before s i)
+  numbered-in : (i : ℕ) (x : List ℕ) → inService s l i ≡ true → numbered s l (suc i) x ≡ set (numbered s l i x) i (serving s l i)
   unfolding numbered
-  numbered-in i l h = rw h
+  numbered-in i x h = rw h
 
-  numbered-out : (i : ℕ) (l : List ℕ) → inService s i ≡ false → numbered s (suc i) l ≡ set (numbered s i l) i noUnknown
+  numbered-out : (i : ℕ) (x : List ℕ) → inService s l i ≡ false → numbered s l (suc i) x ≡ set (numbered s l i x) i noUnknown
   unfolding numbered
-  numbered-out i l h = rw h
-
-  backs-in : (i : ℕ) (l : List ℕ) → inService s i ≡ true → backs s (suc i) l ≡ set (backs s i l) (before s i) i
-  unfolding backs
-  backs-in i l h = rw h
-
-  backs-out : (i : ℕ) (l : List ℕ) → inService s i ≡ false → backs s (suc i) l ≡ backs s i l
-  unfolding backs
-  backs-out i l h = rw h
-
-  backs-length : (i : ℕ) (l : List ℕ) → length (backs s i l) ≡ length l
-  unfolding backs
-  backs-length zero l = refl
-  backs-length (suc i) l = go (inService s i) (backs-length i l)
-    where
-      go : (b : Bool) → length (backs s i l) ≡ length l → length (cond b (set (backs s i l) (before s i) i) (backs s i l)) ≡ length l
-      go true h = length-set (backs s i l) (before s i) i ∙ h
-      go false h = h
+  numbered-out i x h = rw h
 
   clash : {X : Type 0} → true ≡ false → X
   clash h = absurd (subst T h tt)
 
   -- ---- numbers rise by at most one a node
 
-  step : (i : ℕ) → (before s i ≤ before s (suc i)) × (before s (suc i) ≤ suc (before s i))
-  step i = go (inService s i) refl
+  step : (i : ℕ) → (serving s l i ≤ serving s l (suc i)) × (serving s l (suc i) ≤ suc (serving s l i))
+  step i = go (inService s l i) refl
     where
-      go : (b : Bool) → inService s i ≡ b → (before s i ≤ before s (suc i)) × (before s (suc i) ≤ suc (before s i))
-      go true h = (omega (arith, before-in i h), omega (arith, before-in i h))
-      go false h = (omega (arith, before-out i h), omega (arith, before-out i h))
+      go : (b : Bool) → inService s l i ≡ b → (serving s l i ≤ serving s l (suc i)) × (serving s l (suc i) ≤ suc (serving s l i))
+      go true h = (omega (arith, serving-in i h), omega (arith, serving-in i h))
+      go false h = (omega (arith, serving-out i h), omega (arith, serving-out i h))
 
-  none : before s 0 ≡ 0
-  unfolding before
+  none : serving s l 0 ≡ 0
+  unfolding serving
   none = refl
 
-  pub at-most : (i : ℕ) → before s i ≤ i
+  pub at-most : (i : ℕ) → serving s l i ≤ i
   at-most zero = omega (arith, none)
   at-most (suc i) = omega (arith, at-most i, step i)
 
-  pub grows : (d i : ℕ) → before s i ≤ before s (i + d)
-  grows zero i = le-of-eq (ap (before s) (sym (add-zero i)))
-  grows (suc d) i = le-trans (grows d i) (subst (λ (k : ℕ). before s (i + d) ≤ before s k) (sym (add-suc i d)) (step (i + d) .0))
+  pub grows : (d i : ℕ) → serving s l i ≤ serving s l (i + d)
+  grows zero i = le-of-eq (ap (serving s l) (sym (add-zero i)))
+  grows (suc d) i = le-trans (grows d i) (subst (λ (k : ℕ). serving s l (i + d) ≤ serving s l k) (sym (add-suc i d)) (step (i + d) .0))
 
-  pub monotone : {i j : ℕ} → i ≤ j → before s i ≤ before s j
-  monotone {i} {j} h = let e : i + (j - i) ≡ j = omega arith in subst (λ (k : ℕ). before s i ≤ before s k) e (grows (j - i) i)
+  pub monotone : {i j : ℕ} → i ≤ j → serving s l i ≤ serving s l j
+  monotone {i} {j} h = let e : i + (j - i) ≡ j = omega arith in subst (λ (k : ℕ). serving s l i ≤ serving s l k) e (grows (j - i) i)
 
   -- ---- the numbering is one to one, onto the numbers below the count, and rises in node order
 
   -- a junction in service has a number below that of every later node, so its own alone, and below the count
-  pub rising : {i j : ℕ} → inService s i ≡ true → i < j → before s i < before s j
-  rising {i} {j} h l = omega (arith, before-in i h, monotone {i = suc i} {j = j} l)
+  pub rising : {i j : ℕ} → inService s l i ≡ true → i < j → serving s l i < serving s l j
+  rising {i} {j} h x = omega (arith, serving-in i h, monotone {i = suc i} {j = j} x)
 
-  pub one-to-one : {i j : ℕ} → inService s i ≡ true → inService s j ≡ true → before s i ≡ before s j → i ≡ j
+  pub one-to-one : {i j : ℕ} → inService s l i ≡ true → inService s l j ≡ true → serving s l i ≡ serving s l j → i ≡ j
   one-to-one {i} {j} h k e =
       le-antisymm
-      (le-of-suc-le-suc (lt-of-not-le (λ (l : suc j ≤ i). lt-irrefl (before s i) (subst (λ (m : ℕ). m < before s i) (sym e) (rising {i = j} {j = i} k l)))))
-      (le-of-suc-le-suc (lt-of-not-le (λ (l : suc i ≤ j). lt-irrefl (before s i) (subst (λ (m : ℕ). before s i < m) (sym e) (rising {i = i} {j = j} h l)))))
-
-  -- the column of nodes gives each junction in service back from its number
-  pub back-of : (n : ℕ) (l : List ℕ) → n ≤ length l → (i : ℕ) → i < n → inService s i ≡ true → getD (backs s n l) (before s i) 0 ≡ i
-  back-of zero l h i m k = absurd (omega arith)
-  back-of (suc n) l h i m k = go (inService s n) refl (λ (q : i < n). back-of n l (omega arith) i q k)
-    where
-      kept : (j : ℕ) → length (backs s j l) ≡ length l
-      kept j = backs-length j l
-
-      go : (b : Bool) → inService s n ≡ b → (i < n → getD (backs s n l) (before s i) 0 ≡ i) → getD (backs s (suc n) l) (before s i) 0 ≡ i
-      go false e f =
-          ⊎-elim
-          (λ (q : i ≡ n). absurd (clash (sym k ∙ ap (inService s) q ∙ e)))
-          (λ (q : i < n). ap (λ (m : List ℕ). getD m (before s i) 0) (backs-out n l e) ∙ f q)
-          (eq-or-lt-of-le (le-of-suc-le-suc m))
-      go true e f =
-          ⊎-elim
-          (λ (q : i ≡ n). ap (λ (m : List ℕ). getD m (before s i) 0) (backs-in n l e) ∙ ap (λ (m : ℕ). getD (set (backs s n l) (before s n) n) (before s m) 0) q ∙ getD-set-same (backs s n l) (before s n) n 0 (omega (arith, at-most n, kept n)) ∙ sym q)
-          (λ (q : i < n). ap (λ (m : List ℕ). getD m (before s i) 0) (backs-in n l e) ∙ other q ∙ f q)
-          (eq-or-lt-of-le (le-of-suc-le-suc m))
-        where
-          other : i < n → getD (set (backs s n l) (before s n) n) (before s i) 0 ≡ getD (backs s n l) (before s i) 0
-          other q = getD-set-other (backs s n l) (before s n) (before s i) n 0 (λ z. lt-irrefl (before s i) (subst (λ (m : ℕ). before s i < m) (sym z) (rising {i = i} {j = n} k q)))
+      (le-of-suc-le-suc (lt-of-not-le (λ (x : suc j ≤ i). lt-irrefl (serving s l i) (subst (λ (m : ℕ). m < serving s l i) (sym e) (rising {i = j} {j = i} k x)))))
+      (le-of-suc-le-suc (lt-of-not-le (λ (x : suc i ≤ j). lt-irrefl (serving s l i) (subst (λ (m : ℕ). serving s l i < m) (sym e) (rising {i = i} {j = j} h x)))))
 
   -- the column of numbers holds each node's number, or the mark
-  numbered-length : (i : ℕ) (l : List ℕ) → length (numbered s i l) ≡ length l
+  numbered-length : (i : ℕ) (x : List ℕ) → length (numbered s l i x) ≡ length x
   unfolding numbered
-  numbered-length zero l = refl
-  numbered-length (suc i) l = length-set (numbered s i l) i (cond {A = ℕ} (inService s i) (before s i) noUnknown) ∙ numbered-length i l
+  numbered-length zero x = refl
+  numbered-length (suc i) x = length-set (numbered s l i x) i (cond {A = ℕ} (inService s l i) (serving s l i) noUnknown) ∙ numbered-length i x
 
-  pub number-of : (n : ℕ) (l : List ℕ) → n ≤ length l → (i : ℕ) → i < n → getD (numbered s n l) i 0 ≡ cond {A = ℕ} (inService s i) (before s i) noUnknown
+  pub number-of : (n : ℕ) (x : List ℕ) → n ≤ length x → (i : ℕ) → i < n → getD (numbered s l n x) i 0 ≡ cond {A = ℕ} (inService s l i) (serving s l i) noUnknown
   unfolding numbered
-  number-of zero l h i m = absurd (omega arith)
-  number-of (suc n) l h i m =
+  number-of zero x h i m = absurd (omega arith)
+  number-of (suc n) x h i m =
       ⊎-elim
-      (λ (q : i ≡ n). subst (λ (k : ℕ). getD (set (numbered s n l) n (cond {A = ℕ} (inService s n) (before s n) noUnknown)) k 0 ≡ cond {A = ℕ} (inService s k) (before s k) noUnknown) (sym q) (getD-set-same (numbered s n l) n (cond {A = ℕ} (inService s n) (before s n) noUnknown) 0 (omega (arith, numbered-length n l))))
-      (λ (q : i < n). getD-set-other (numbered s n l) n i (cond {A = ℕ} (inService s n) (before s n) noUnknown) 0 (λ z. omega arith) ∙ number-of n l (omega arith) i q)
+      (λ (q : i ≡ n). subst (λ (k : ℕ). getD (set (numbered s l n x) n (cond {A = ℕ} (inService s l n) (serving s l n) noUnknown)) k 0 ≡ cond {A = ℕ} (inService s l k) (serving s l k) noUnknown) (sym q) (getD-set-same (numbered s l n x) n (cond {A = ℕ} (inService s l n) (serving s l n) noUnknown) 0 (omega (arith, numbered-length n x))))
+      (λ (q : i < n). getD-set-other (numbered s l n x) n i (cond {A = ℕ} (inService s l n) (serving s l n) noUnknown) 0 (λ z. omega arith) ∙ number-of n x (omega arith) i q)
       (eq-or-lt-of-le (le-of-suc-le-suc m))
 
   -- every number below the count is a junction's in service
-  pub onto : (n u : ℕ) → u < before s n → (i : ℕ) × ((i < n) × ((inService s i ≡ true) × (before s i ≡ u)))
+  pub onto : (n u : ℕ) → u < serving s l n → (i : ℕ) × ((i < n) × ((inService s l i ≡ true) × (serving s l i ≡ u)))
   onto zero u h = absurd (omega (arith, none))
-  onto (suc n) u h = go (inService s n) refl (λ (q : u < before s n). onto n u q)
+  onto (suc n) u h = go (inService s l n) refl (λ (q : u < serving s l n). onto n u q)
     where
-      go : (b : Bool) → inService s n ≡ b → (u < before s n → (i : ℕ) × ((i < n) × ((inService s i ≡ true) × (before s i ≡ u)))) → (i : ℕ) × ((i < suc n) × ((inService s i ≡ true) × (before s i ≡ u)))
-      go false e f = let w = f (omega (arith, before-out n e)) in (w .0, (omega (arith, w .1 .0), w .1 .1))
+      go : (b : Bool) → inService s l n ≡ b → (u < serving s l n → (i : ℕ) × ((i < n) × ((inService s l i ≡ true) × (serving s l i ≡ u)))) → (i : ℕ) × ((i < suc n) × ((inService s l i ≡ true) × (serving s l i ≡ u)))
+      go false e f = let w = f (omega (arith, serving-out n e)) in (w .0, (omega (arith, w .1 .0), w .1 .1))
       go true e f =
           ⊎-elim
-          (λ (q : u ≡ before s n). (n, (omega arith, (e, sym q))))
-          (λ (q : u < before s n). let w = f q in (w .0, (omega (arith, w .1 .0), w .1 .1)))
-          (eq-or-lt-of-le (le-of-suc-le-suc (subst (λ (m : ℕ). u < m) (before-in n e) h)))
+          (λ (q : u ≡ serving s l n). (n, (omega arith, (e, sym q))))
+          (λ (q : u < serving s l n). let w = f q in (w .0, (omega (arith, w .1 .0), w .1 .1)))
+          (eq-or-lt-of-le (le-of-suc-le-suc (subst (λ (m : ℕ). u < m) (serving-in n e) h)))
 
--- the loop after i nodes, with the columns as they are and as they were
-pub record Numbered (s : List ℕ) (unknowns₀ back₀ unknowns back : List ℕ) (n count i : ℕ) : Type 0 where
-  pub upto : i ≤ n
-  pub counted : count ≡ before s i
-  pub forth : unknowns ≡ numbered s i unknowns₀
-  pub backward : back ≡ backs s i back₀
-  pub forth-long : length unknowns ≡ length unknowns₀
-  pub back-long : length back ≡ length back₀
+-- the loop after i nodes, with the column as it is and as it was
+pub record Numbered (s : List ℕ) (l : Layout) (unknowns₀ unknowns : List ℕ) (count i : ℕ) : Type 0 where
+  pub upto : i ≤ l .nodes
+  pub counted : count ≡ serving s l i
+  pub forth : unknowns ≡ numbered s l i unknowns₀
+  pub long : length unknowns ≡ length unknowns₀
 
-module _ (s unknowns₀ back₀ : List ℕ) (n : ℕ) where
-  pub start : Numbered s unknowns₀ back₀ unknowns₀ back₀ n 0 0
-  unfolding before numbered backs
-  start = record { upto = omega arith; counted = refl; forth = refl; backward = refl; forth-long = refl; back-long = refl }
+module _ (s : List ℕ) (l : Layout) (unknowns₀ : List ℕ) where
+  pub start : Numbered s l unknowns₀ unknowns₀ 0 0
+  unfolding serving numbered
+  start = record { upto = omega arith; counted = refl; forth = refl; long = refl }
 
-  module _ {unknowns back : List ℕ} {count i : ℕ} (d : Numbered s unknowns₀ back₀ unknowns back n count i) (more : i < n) where
-    -- what a write at `count` asks
+  module _ {unknowns : List ℕ} {count i : ℕ} (d : Numbered s l unknowns₀ unknowns count i) (more : i < l .nodes) where
     pub room : count ≤ i
-    room = omega (arith, d .counted, at-most s i)
+    room = omega (arith, d .counted, at-most s l i)
 
-    pub turn-in : inService s i ≡ true → Numbered s unknowns₀ back₀ (set unknowns i count) (set back count i) n (count + 1) (i + 1)
+    pub turn-in : inService s l i ≡ true → Numbered s l unknowns₀ (set unknowns i count) (count + 1) (i + 1)
     turn-in h =
         record {
           upto = omega arith;
-          counted = omega (arith, d .counted, before-in s i h, ap (before s) (add-one i));
-          forth = ap (λ (l : List ℕ). set l i count) (d .forth) ∙ ap (set (numbered s i unknowns₀) i) (d .counted) ∙ sym (ap (λ (k : ℕ). numbered s k unknowns₀) (add-one i) ∙ numbered-in s i unknowns₀ h);
-          backward = ap (λ (l : List ℕ). set l count i) (d .backward) ∙ ap (λ (k : ℕ). set (backs s i back₀) k i) (d .counted) ∙ sym (ap (λ (k : ℕ). backs s k back₀) (add-one i) ∙ backs-in s i back₀ h);
-          forth-long = length-set unknowns i count ∙ d .forth-long;
-          back-long = length-set back count i ∙ d .back-long;
+          counted = omega (arith, d .counted, serving-in s l i h, ap (serving s l) (add-one i));
+          forth = ap (λ (x : List ℕ). set x i count) (d .forth) ∙ ap (set (numbered s l i unknowns₀) i) (d .counted) ∙ sym (ap (λ (k : ℕ). numbered s l k unknowns₀) (add-one i) ∙ numbered-in s l i unknowns₀ h);
+          long = length-set unknowns i count ∙ d .long;
         }
 
-    pub turn-out : inService s i ≡ false → Numbered s unknowns₀ back₀ (set unknowns i noUnknown) back n count (i + 1)
+    pub turn-out : inService s l i ≡ false → Numbered s l unknowns₀ (set unknowns i noUnknown) count (i + 1)
     turn-out h =
         record {
           upto = omega arith;
-          counted = d .counted ∙ sym (ap (before s) (add-one i) ∙ before-out s i h);
-          forth = ap (λ (l : List ℕ). set l i noUnknown) (d .forth) ∙ sym (ap (λ (k : ℕ). numbered s k unknowns₀) (add-one i) ∙ numbered-out s i unknowns₀ h);
-          backward = d .backward ∙ sym (ap (λ (k : ℕ). backs s k back₀) (add-one i) ∙ backs-out s i back₀ h);
-          forth-long = length-set unknowns i noUnknown ∙ d .forth-long;
-          back-long = d .back-long;
+          counted = d .counted ∙ sym (ap (serving s l) (add-one i) ∙ serving-out s l i h);
+          forth = ap (λ (x : List ℕ). set x i noUnknown) (d .forth) ∙ sym (ap (λ (k : ℕ). numbered s l k unknowns₀) (add-one i) ∙ numbered-out s l i unknowns₀ h);
+          long = length-set unknowns i noUnknown ∙ d .long;
         }
 
     -- the same of what the code holds after the branch
-    pub after-in : (u b : List ℕ) (k : ℕ) → u ≡ set unknowns i count → b ≡ set back count i → k ≡ count + 1 → inService s i ≡ true → Numbered s unknowns₀ back₀ u b n k (i + 1)
-    after-in u b k p q r h = rw (p, q, r) (turn-in h)
+    pub after-in : (u : List ℕ) (k : ℕ) → u ≡ set unknowns i count → k ≡ count + 1 → inService s l i ≡ true → Numbered s l unknowns₀ u k (i + 1)
+    after-in u k p r h = rw (p, r) (turn-in h)
 
-    pub after-out : (u b : List ℕ) (k : ℕ) → u ≡ set unknowns i noUnknown → b ≡ back → k ≡ count → inService s i ≡ false → Numbered s unknowns₀ back₀ u b n k (i + 1)
-    after-out u b k p q r h = rw (p, q, r) (turn-out h)
+    pub after-out : (u : List ℕ) (k : ℕ) → u ≡ set unknowns i noUnknown → k ≡ count → inService s l i ≡ false → Numbered s l unknowns₀ u k (i + 1)
+    after-out u k p r h = rw (p, r) (turn-out h)
 
 -- ---- what a node is in the matrix, of fewer nodes than the mark
 
-module _ (s : List ℕ) (n : ℕ) (l : List ℕ) (fits : n ≤ length l) (few : n ≤ noUnknown) (i : ℕ) (here : i < n) where
-  pub row-in : inService s i ≡ true → rowOf (numbered s n l) i ≡ Unknown (record { 0 = before s i })
+module _ (s : List ℕ) (l : Layout) (n : ℕ) (x : List ℕ) (fits : n ≤ length x) (few : n ≤ noUnknown) (i : ℕ) (here : i < n) where
+  pub row-in : inService s l i ≡ true → rowOf (numbered s l n x) i ≡ Unknown (record { 0 = serving s l i })
   unfolding rowOf
   row-in h =
-      let e : getD (numbered s n l) i 0 ≡ before s i = number-of s n l fits i here ∙ ap (λ (b : Bool). cond {A = ℕ} b (before s i) noUnknown) h in
-      rw e (simp (ne-eqb (before s i) noUnknown (λ z. omega (arith, at-most s i))))
+      let e : getD (numbered s l n x) i 0 ≡ serving s l i = number-of s l n x fits i here ∙ ap (λ (b : Bool). cond {A = ℕ} b (serving s l i) noUnknown) h in
+      rw e (simp (ne-eqb (serving s l i) noUnknown (λ z. omega (arith, at-most s l i))))
 
-  pub row-out : inService s i ≡ false → rowOf (numbered s n l) i ≡ Fixed
+  pub row-out : inService s l i ≡ false → rowOf (numbered s l n x) i ≡ Fixed
   unfolding rowOf
   row-out h =
-      let e : getD (numbered s n l) i 0 ≡ noUnknown = number-of s n l fits i here ∙ ap (λ (b : Bool). cond {A = ℕ} b (before s i) noUnknown) h in
+      let e : getD (numbered s l n x) i 0 ≡ noUnknown = number-of s l n x fits i here ∙ ap (λ (b : Bool). cond {A = ℕ} b (serving s l i) noUnknown) h in
       rw e

@@ -10,66 +10,94 @@ use borrow.Author.Tests.{eq-eqb, ne-eqb}
 use lib.Dec.{eqb}
 use lib.ListN.{length, getD}
 use Rattle.linear.specs.declared.factorization.UnknownIndex.{UnknownIndex}
-use Rattle.sheet.specs.Ends.{inService}
-use Rattle.numbering.specs.Numbering.{noUnknown, before, numbered, rowOf, rowAt, RowsRight, RowBelow, nodeOf, nodeNumbered, NodesRight, backs}
+use Rattle.layout.specs.declared.places.Layout.{Layout}
+use Rattle.nodes.specs.Nodes.{inService, serving}
+use Rattle.numbering.specs.Numbering.{noUnknown, numbered, rowOf, rowAt, RowsRight, RowBelow, foundBy, nodeNumbered}
 use Rattle.numbering.specs.declared.Row.{Row}
 use Rattle.numbering.specs.declared.Row.the-variants.{Unknown, Fixed}
-use Rattle.numbering.proofs.Numbers.{at-most, row-in, row-out, onto, back-of, rising}
+use Rattle.numbering.proofs.Numbers.{at-most, row-in, row-out, onto, rising}
 
-pub rows-right : (s : List ℕ) (n : ℕ) (l : List ℕ) → n ≤ length l → n ≤ noUnknown → RowsRight n s (numbered s n l)
+pub rows-right : (s : List ℕ) (l : Layout) (x : List ℕ) → l .nodes ≤ length x → l .nodes ≤ noUnknown → RowsRight l s (numbered s l (l .nodes) x)
 unfolding rowAt
-rows-right s n l h f = record { right = λ i k. go i k (inService s i) refl }
+rows-right s l x h f = record { right = λ i k. go i k (inService s l i) refl }
   where
-    go : (i : ℕ) → i < n → (b : Bool) → inService s i ≡ b → rowOf (numbered s n l) i ≡ cond (inService s i) (Unknown (record { 0 = before s i })) Fixed
-    go i k true e = rw e (row-in s n l h f i k e)
-    go i k false e = rw e (row-out s n l h f i k e)
+    go : (i : ℕ) → i < l .nodes → (b : Bool) → inService s l i ≡ b → rowOf (numbered s l (l .nodes) x) i ≡ cond (inService s l i) (Unknown (record { 0 = serving s l i })) Fixed
+    go i k true e = rw e (row-in s l (l .nodes) x h f i k e)
+    go i k false e = rw e (row-out s l (l .nodes) x h f i k e)
+
+-- ---- one step of the search through the column
+
+pub found-fixed : (row : Row) (u i was : ℕ) → row ≡ Fixed → was ≡ foundBy row u i was
+unfolding foundBy
+found-fixed row u i was e = rw e
+
+pub found-here : (row : Row) (v : UnknownIndex) (u i was : ℕ) → row ≡ Unknown v → v .0 ≡ u → i ≡ foundBy row u i was
+unfolding foundBy
+found-here row v u i was e h = rw (e, eq-eqb (v .0) u h)
+
+pub found-past : (row : Row) (v : UnknownIndex) (u i was : ℕ) → row ≡ Unknown v → (v .0 ≡ u → ⊥) → was ≡ foundBy row u i was
+unfolding foundBy
+found-past row v u i was e h = rw (e, ne-eqb (v .0) u h)
+
+-- ---- rows
 
 abbrev numberOf : Row → ℕ
 numberOf (Unknown u) = u .0
 numberOf Fixed = 0
 
-number-most : (s : List ℕ) (i : ℕ) → numberOf (rowAt s i) ≤ i
+number-most : (s : List ℕ) (l : Layout) (i : ℕ) → numberOf (rowAt s l i) ≤ i
 unfolding rowAt
-number-most s i = go (inService s i)
+number-most s l i = go (inService s l i)
   where
-    go : (b : Bool) → numberOf (cond b (Unknown (record { 0 = before s i })) Fixed) ≤ i
-    go true = at-most s i
+    go : (b : Bool) → numberOf (cond b (Unknown (record { 0 = serving s l i })) Fixed) ≤ i
+    go true = at-most s l i
     go false = omega arith
 
-pub row-most : (s : List ℕ) (i : ℕ) (u : UnknownIndex) → rowAt s i ≡ Unknown u → u .0 ≤ i
-row-most s i u h = let e : numberOf (rowAt s i) ≡ u .0 = ap numberOf h in omega (arith, number-most s i, e)
+pub row-most : (s : List ℕ) (l : Layout) (i : ℕ) (u : UnknownIndex) → rowAt s l i ≡ Unknown u → u .0 ≤ i
+row-most s l i u h = let e : numberOf (rowAt s l i) ≡ u .0 = ap numberOf h in omega (arith, number-most s l i, e)
 
-pub row-below : (s : List ℕ) (i n : ℕ) (row : Row) → row ≡ rowAt s i → i < n → n ≤ 64 → RowBelow 64 row
-row-below s i n row h l f = record { below = λ w k. let e : w .0 ≤ i = row-most s i w (sym h ∙ k) in omega (arith, e) }
+pub row-below : (s : List ℕ) (l : Layout) (i n : ℕ) (row : Row) → row ≡ rowAt s l i → i < n → n ≤ 64 → RowBelow 64 row
+row-below s l i n row h x f = record { below = λ w k. let e : w .0 ≤ i = row-most s l i w (sym h ∙ k) in omega (arith, e) }
 
 -- ---- the way back from an unknown to its node
 
-module _ (s : List ℕ) where
-  pub node-at : (n i : ℕ) → i < n → inService s i ≡ true → nodeNumbered s n (before s i) ≡ i
+module _ (s : List ℕ) (l : Layout) where
+  pub node-at : (n i : ℕ) → i < n → inService s l i ≡ true → nodeNumbered s l n (serving s l i) ≡ i
   unfolding nodeNumbered
   node-at zero i h k = absurd (omega arith)
   node-at (suc n) i h k =
       ⊎-elim
-      (λ (q : i ≡ n). rw (← q, k, eq-eqb (before s i) (before s i) refl))
-      (λ (q : i < n). earlier q (inService s n) refl (node-at n i q k))
+      (λ (q : i ≡ n). rw (← q, k, eq-eqb (serving s l i) (serving s l i) refl))
+      (λ (q : i < n). earlier q (inService s l n) refl (node-at n i q k))
       (eq-or-lt-of-le (le-of-suc-le-suc h))
     where
-      earlier : i < n → (b : Bool) → inService s n ≡ b → nodeNumbered s n (before s i) ≡ i → cond {A = ℕ} (inService s n && eqb (before s n) (before s i)) n (nodeNumbered s n (before s i)) ≡ i
-      earlier q true e f = rw (e, ne-eqb (before s n) (before s i) (λ z. omega (arith, rising s {i = i} {j = n} k q, z)), f)
+      earlier : i < n → (b : Bool) → inService s l n ≡ b → nodeNumbered s l n (serving s l i) ≡ i → cond {A = ℕ} (inService s l n && eqb (serving s l n) (serving s l i)) n (nodeNumbered s l n (serving s l i)) ≡ i
+      earlier q true e f = rw (e, ne-eqb (serving s l n) (serving s l i) (λ z. omega (arith, rising s l {i = i} {j = n} k q, z)), f)
       earlier q false e f = rw (e, f)
 
   -- what is known of the node of an unknown
   pub record NodeOf (n u : ℕ) : Type 0 where
-    pub below : nodeNumbered s n u < n
-    pub serving : inService s (nodeNumbered s n u) ≡ true
-    pub number : before s (nodeNumbered s n u) ≡ u
+    pub below : nodeNumbered s l n u < n
+    pub works : inService s l (nodeNumbered s l n u) ≡ true
+    pub number : serving s l (nodeNumbered s l n u) ≡ u
 
-  pub node-of : (n u : ℕ) → u < before s n → NodeOf n u
+  pub node-of : (n u : ℕ) → u < serving s l n → NodeOf n u
   node-of n u h =
-      let w = onto s n u h in
-      let e : nodeNumbered s n u ≡ w .0 = ap (nodeNumbered s n) (sym (w .1 .1 .1)) ∙ node-at n (w .0) (w .1 .0) (w .1 .1 .0) in
-      record { below = omega (arith, w .1 .0, e); serving = ap (inService s) e ∙ w .1 .1 .0; number = ap (before s) e ∙ w .1 .1 .1 }
+      let w = onto s l n u h in
+      let e : nodeNumbered s l n u ≡ w .0 = ap (nodeNumbered s l n) (sym (w .1 .1 .1)) ∙ node-at n (w .0) (w .1 .0) (w .1 .1 .0) in
+      record { below = omega (arith, w .1 .0, e); works = ap (inService s l) e ∙ w .1 .1 .0; number = ap (serving s l) e ∙ w .1 .1 .1 }
 
-  -- the column that `number_unknowns` fills says the node of each unknown
-  pub nodes-right : (n : ℕ) (l : List ℕ) → n ≤ length l → NodesRight n s (backs s n l)
-  nodes-right n l h = record { right = λ u k. let w = node-of n u k in ap (λ (i : ℕ). record { 0 = i }) (ap (λ (v : ℕ). getD (backs s n l) v 0) (sym (w .number)) ∙ back-of s n l h (nodeNumbered s n u) (w .below) (w .serving)) }
+  -- ---- the search through the column
+
+  pub none-found : (u : ℕ) → 0 ≡ nodeNumbered s l 0 u
+  unfolding nodeNumbered
+  none-found u = refl
+
+  -- node i has the row that the column says
+  pub found-next : (i u was now : ℕ) (row : Row) → row ≡ rowAt s l i → was ≡ nodeNumbered s l i u → now ≡ foundBy row u i was → now ≡ nodeNumbered s l (suc i) u
+  unfolding nodeNumbered rowAt foundBy
+  found-next i u was now row r e f = f ∙ ap (λ (w : Row). foundBy w u i was) r ∙ go (inService s l i) ∙ ap (λ (k : ℕ). cond {A = ℕ} (inService s l i && eqb (serving s l i) u) i k) e
+    where
+      go : (b : Bool) → foundBy (cond b (Unknown (record { 0 = serving s l i })) Fixed) u i was ≡ cond {A = ℕ} (b && eqb (serving s l i) u) i was
+      go true = refl
+      go false = refl

@@ -3,12 +3,11 @@
 ghost use mathlib.Core.Path.{_≡_};
 ghost use Prim.Native.Nat.{_<_, _≤_};
 ghost use lib.ListN.{length};
-ghost use Rattle.records.specs.Offsets.{nodeOffset};
-ghost use Rattle.numbering.specs.Numbering.{before, numbered, backs, rowOf, nodeOf};
+ghost use Rattle.layout.specs.Places.{Laid};
+ghost use Rattle.numbering.specs.Numbering.{numbered, rowOf, RowsRight, nodeNumbered, foundBy};
+use layout::Layout;
 use linear::UnknownIndex;
-
-// A node, by its number.
-pub struct NodeIndex(pub usize);
+use nodes::NodeIndex;
 
 // What a node is in the matrix: an unknown, or none of its rows.
 pub enum Row {
@@ -19,30 +18,21 @@ pub enum Row {
 // The mark for "no unknown" in the column of numbers.
 const NO_UNKNOWN: usize = 0xffff_ffff;
 
-// Fills a column with each node's number as an unknown, or the mark, and another with each
-// unknown's node; gives the number of unknowns.
-pub fn number_unknowns(
-    sheet: &[u8],
-    nodes: usize,
-    unknowns: &mut [usize],
-    back: &mut [usize],
-) -> usize
-    requires { ⌜ (nodeOffset nodes ≤ length (now sheet)) × ((nodes ≤ length (now unknowns)) × (nodes ≤ length (now back))) ⌝ }
-    ensures count { λ r. ⌜ r ≡ before (now (sheet .entry)) nodes ⌝ }
-    ensures forth { λ r. ⌜ now (unknowns .exit) ≡ numbered (now (sheet .entry)) nodes (now (unknowns .entry)) ⌝ }
-    ensures back { λ r. ⌜ now (back .exit) ≡ backs (now (sheet .entry)) nodes (now (back .entry)) ⌝ }
+// Fills a column with each node's number as an unknown, or the mark.
+pub fn number_unknowns(sheet: &[u8], l: Layout, unknowns: &mut [usize])
+    requires { ⌜ Laid l (now sheet) ⌝ }
+    requires { ⌜ l .nodes ≤ length (now unknowns) ⌝ }
+    ensures { λ _. ⌜ now (unknowns .exit) ≡ numbered (now (sheet .entry)) l (l .nodes) (now (unknowns .entry)) ⌝ }
 {
     let mut count: usize = 0;
-    for i in 0..nodes {
-        if sheet::in_service(sheet, i) {
+    for i in 0..l.nodes {
+        if nodes::in_service(sheet, l, i) {
             unknowns[i] = count;
-            back[count] = i;
             count += 1;
         } else {
             unknowns[i] = NO_UNKNOWN;
         }
     }
-    count
 }
 
 // The row of a node.
@@ -59,11 +49,28 @@ pub fn unknown_of(unknowns: &[usize], node: NodeIndex) -> Row
     }
 }
 
-// The node of an unknown.
-pub fn node_of(back: &[usize], unknown: UnknownIndex) -> NodeIndex
-    requires { ⌜ unknown .0 < length (now back) ⌝ }
-    ensures { λ r. ⌜ r ≡ nodeOf (now (back .entry)) (unknown .0) ⌝ }
+// The node where its row is the unknown, else what was found before.
+fn found_by(row: Row, unknown: UnknownIndex, i: usize, was: usize) -> usize
+    ensures { λ r. ⌜ r ≡ foundBy row (unknown .0) i was ⌝ }
 {
-    let u = unknown.0;
-    NodeIndex(back[u])
+    let Row::Unknown(v) = row else {
+        return was;
+    };
+    if v.0 == unknown.0 { i } else { was }
+}
+
+// The node of an unknown, found by a search: it is asked for once a failed factorization.
+pub fn node_of(sheet: &[u8], l: Layout, unknowns: &[usize], unknown: UnknownIndex) -> NodeIndex
+    requires { ⌜ l .nodes ≤ length (now unknowns) ⌝ }
+    requires { ⌜ RowsRight l (now sheet) (now unknowns) ⌝ }
+    ensures { λ r. ⌜ r ≡ record { 0 = nodeNumbered (now (sheet .entry)) l (l .nodes) (unknown .0) } ⌝ }
+{
+    let mut node: usize = 0;
+    let mut i: usize = 0;
+    while i < l.nodes {
+        let row = unknown_of(unknowns, NodeIndex(i));
+        node = found_by(row, unknown, i, node);
+        i += 1;
+    }
+    NodeIndex(node)
 }

@@ -1,6 +1,6 @@
 // A pipe's coefficients by Hazen-Williams.
 ghost use mathlib.Core.Path.{_≡_};
-ghost use Rattle.power.specs.Tables.{tableA, tableB};
+ghost use Rattle.power.specs.Tables.{powerTable};
 ghost use Rattle.pipes.specs.Pipe.{frictionOf, withMinor, withBarrier, pipeOf};
 use coefficient::Coefficients;
 use coefficient::simple;
@@ -23,11 +23,11 @@ pub struct Loss {
 }
 
 // Friction; linear where the gradient is very small.
-fn friction(q_abs: f64, r: f64, a: &[u64; 1025], b: &[u64; 128]) -> Loss
-    requires { ⌜ (now a ≡ tableA) × (now b ≡ tableB) ⌝ }
+fn friction(q_abs: f64, r: f64, table: &[u64; 1153]) -> Loss
+    requires { ⌜ now table ≡ powerTable ⌝ }
     ensures { λ l. ⌜ l ≡ frictionOf «q_abs» r ⌝ }
 {
-    let hgrad = H_EXPONENT * r * power(q_abs, a, b);
+    let hgrad = H_EXPONENT * r * power(q_abs, table);
     if hgrad < RQ_TOL {
         return Loss {
             hgrad: RQ_TOL,
@@ -73,10 +73,9 @@ pub fn pipe_rule(
     r: f64,
     status: Status,
     q: f64,
-    a: &[u64; 1025],
-    b: &[u64; 128],
+    table: &[u64; 1153],
 ) -> Coefficients
-    requires { ⌜ (now a ≡ tableA) × (now b ≡ tableB) ⌝ }
+    requires { ⌜ now table ≡ powerTable ⌝ }
     ensures { λ c. ⌜ c ≡ pipeOf check ml r status q ⌝ }
 {
     match status {
@@ -84,7 +83,7 @@ pub fn pipe_rule(
         _ => {}
     }
     let q_abs = abs(q);
-    let l = with_minor(friction(q_abs, r, a, b), ml, q_abs);
+    let l = with_minor(friction(q_abs, r, table), ml, q_abs);
     let hloss = l.hloss * signum(q);
     let g_inv = 1.0 / l.hgrad;
     let y = hloss / l.hgrad;

@@ -2,5 +2,4 @@
 mod recipe;
 
 pub use recipe::power;
-pub use tables::table_a;
-pub use tables::table_b;
+pub use tables::power_table;

@@ -1,8 +1,8 @@
-// x^0.852 from the bits of x and two lent tables.
+// x^0.852 from the bits of x and the lent table.
 ghost use mathlib.Core.Path.{_≡_};
 ghost use Prim.Native.Nat.{_-_, _*_, _/_, _^_, _≤_, _<_};
 ghost use Rattle.power.specs.Power.{powerOf};
-ghost use Rattle.tables.specs.Tables.{tableA, tableB};
+ghost use Rattle.tables.specs.Tables.{powerTable};
 use tables::entry_a;
 use tables::entry_b;
 
@@ -16,8 +16,8 @@ fn place(p: u64) -> usize
 }
 
 // x^0.852, for every f64: 0 below 2^-64, infinity from 2^64, NaN for NaN and below zero.
-pub fn power(x: f64, a: &[u64; 1025], b: &[u64; 128]) -> f64
-    requires { ⌜ (now a ≡ tableA) × (now b ≡ tableB) ⌝ }
+pub fn power(x: f64, table: &[u64; 1153]) -> f64
+    requires { ⌜ now table ≡ powerTable ⌝ }
     ensures { λ r. ⌜ r ≡ powerOf x ⌝ }
 {
     if x != x {
@@ -39,8 +39,8 @@ pub fn power(x: f64, a: &[u64; 1025], b: &[u64; 128]) -> f64
     }
     // the steps of 1/1,024 in m, and the rest in units of 2^-42 of a step
     let i = (p / 0x400_0000_0000 % 1024) as usize;
-    let low = entry_a(a, i);
-    let high = entry_a(a, i + 1);
+    let low = entry_a(table, i);
+    let high = entry_a(table, i + 1);
     let t = (p % 0x400_0000_0000) as f64 * 2.2737367544323206e-13;
-    (low + t * (high - low)) * entry_b(b, place(p))
+    (low + t * (high - low)) * entry_b(table, place(p))
 }

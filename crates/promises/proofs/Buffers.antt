@@ -13,7 +13,7 @@ use Rattle.constants.specs.Constants as constant
 use Rattle.refusals.specs.Refusals.{numberOf, placeOf}
 use Rattle.refusals.specs.declared.refusals.Refusal.{Refusal}
 use Rattle.refusals.specs.declared.refusals.Refusal.the-variants.{Unreadable, NodeCount, LinkCount, Field, Ends}
-use Rattle.sheet.specs.declared.reading.Net.{Net}
+use Rattle.layout.specs.declared.places.Layout.{Layout}
 use Rattle.columns.specs.Columns.{addTo, zeros, copied}
 use Rattle.columns.proofs.Laws.{zeros-long}
 use Rattle.state.specs.State.{State}
@@ -28,6 +28,7 @@ use Rattle.entries.specs.declared.Tally.{Tally}
 use Rattle.answers.specs.Answers.{Lent, failedOf, refusedOf}
 use Rattle.conclusion.specs.Conclusion.{emptied, unsolved, delivered, told}
 use Rattle.solver.specs.Solve.{trialsOf, solveOf}
+use Rattle.solver.proofs.Laws.{network-of}
 use Rattle.promises.specs.Trials.{startPoint, runIn, pointIn}
 use Rattle.promises.specs.Solves.{Runs}
 use Rattle.promises.specs.Buffers.{Buffers, Over, Delivered}
@@ -63,8 +64,8 @@ unfolding copied
 over n z from to h =
     let e : length (take n from) ≡ n = length-take-le n from h in
     record {
-      first = λ i l. List·getD-append (take n from) (drop n to) z i (omega (arith, e)) ∙ getD-take n from i z l;
-      later = λ i l. past n z (take n from) to e i l;
+      first = λ i x. List·getD-append (take n from) (drop n to) z i (omega (arith, e)) ∙ getD-take n from i z x;
+      later = λ i x. past n z (take n from) to e i x;
     }
 
 settled-later : (n : ℕ) (d : List Float) (i : ℕ) → n ≤ i → getD (settledOf n d) i nan ≡ getD d i nan
@@ -75,15 +76,15 @@ settled-later (suc n) d i h = getD-set-other (settledOf n d) n i (plus (getD (se
 -- each of the first n demands gained +0.0
 settled-at : (n : ℕ) (d : List Float) → n ≤ length d → (i : ℕ) → i < n → getD (settledOf n d) i nan ≡ plus (getD d i nan) constant.zero
 unfolding settledOf addTo
-settled-at zero d h i l = absurd (let y : ⊥ = omega arith in y)
-settled-at (suc n) d h i l =
+settled-at zero d h i x = absurd (let y : ⊥ = omega arith in y)
+settled-at (suc n) d h i x =
     ⊎-elim
     (λ (q : i ≡ n).
     ap (λ (j : ℕ). getD (addTo (settledOf n d) n constant.zero) j nan) q
     ∙ getD-set-same (settledOf n d) n (plus (getD (settledOf n d) n nan) constant.zero) nan (omega (arith, settled-long n d))
     ∙ ap (λ (x : Float). plus x constant.zero) (settled-later n d n (omega arith) ∙ ap (λ (j : ℕ). getD d j nan) (sym q)))
     (λ (q : i < n). getD-set-other (settledOf n d) n i (plus (getD (settledOf n d) n nan) constant.zero) nan (λ z. omega arith) ∙ settled-at n d (omega arith) i q)
-    (eq-or-lt-of-le (le-of-suc-le-suc l))
+    (eq-or-lt-of-le (le-of-suc-le-suc x))
 
 -- ---- each end of a solve
 
@@ -93,9 +94,9 @@ no n a b = absurd (let y : ⊥ = omega arith in y)
 between : {A : Type 0} (n : ℕ) → 6 ≤ n → n ≤ 5 → A
 between n a b = absurd (let y : ⊥ = omega arith in y)
 
-refused-buffers : (number place : ℕ) (l : Lent) → number ≤ 5 → Buffers l (refusedOf number place l)
+refused-buffers : (number place : ℕ) (x : Lent) → number ≤ 5 → Buffers x (refusedOf number place x)
 unfolding refusedOf failedOf
-refused-buffers number place l h =
+refused-buffers number place x h =
     record {
       number = omega arith;
       untouched = λ a b. record { lent = refl; trials = refl; freed = refl; grounded = refl };
@@ -114,76 +115,76 @@ number-small LinkCount = omega arith
 number-small (Field p) = omega arith
 number-small (Ends p) = omega arith
 
-module _ (l : Lent) (tally : Tally) (bytes : List ℕ) (kept : (i : ℕ) → 4 * tally .trials ≤ i → getD bytes i 0 ≡ getD (l .entries) i 0) where
-  unsolved-buffers : (number place : ℕ) → 6 ≤ number → number ≤ 8 → Buffers l (unsolved number place tally bytes l)
+module _ (x : Lent) (tally : Tally) (bytes : List ℕ) (kept : (i : ℕ) → 4 * tally .trials ≤ i → getD bytes i 0 ≡ getD (x .entries) i 0) where
+  unsolved-buffers : (number place : ℕ) → 6 ≤ number → number ≤ 8 → Buffers x (unsolved number place tally bytes x)
   unfolding unsolved failedOf
   unsolved-buffers number place a b =
       record {
         number = b;
-        untouched = λ x y. between number a y;
-        withheld = λ x. record { heads = refl; demands = refl; flows = refl; statuses = refl };
-        totals = λ x. record { demand = refl; supply = refl; error = refl };
-        cleared = λ x. cleared-first (l .scratch);
-        scratch-past = cleared-later (l .scratch);
+        untouched = λ d e. between number a e;
+        withheld = λ d. record { heads = refl; demands = refl; flows = refl; statuses = refl };
+        totals = λ d. record { demand = refl; supply = refl; error = refl };
+        cleared = λ d. cleared-first (x .scratch);
+        scratch-past = cleared-later (x .scratch);
         entries-past = kept;
       }
 
-  told-buffers : (s : List ℕ) (net : Net) (m : ℕ) (t : State) (z : Ended) → Buffers l (told s net m l t tally bytes z)
+  told-buffers : (s : List ℕ) (l : Layout) (m : ℕ) (t : State) (z : Ended) → Buffers x (told s l m x t tally bytes z)
   unfolding told delivered
-  told-buffers s net m t Balanced =
+  told-buffers s l m t Balanced =
       record {
         number = omega arith;
         untouched = λ a b. no 0 (omega arith) a;
         withheld = λ a. between 6 (omega arith) (omega arith);
         totals = λ a. no 0 (omega arith) a;
-        cleared = λ a. cleared-first (l .scratch);
-        scratch-past = cleared-later (l .scratch);
+        cleared = λ a. cleared-first (x .scratch);
+        scratch-past = cleared-later (x .scratch);
         entries-past = kept;
       }
-  told-buffers s net m t (Failed v) = unsolved-buffers 6 (v .0) (omega arith) (omega arith)
-  told-buffers s net m t (Strayed p) = unsolved-buffers 7 p (omega arith) (omega arith)
-  told-buffers s net m t Limit = unsolved-buffers 8 m (omega arith) (omega arith)
+  told-buffers s l m t (Failed v) = unsolved-buffers 6 (v .0) (omega arith) (omega arith)
+  told-buffers s l m t (Strayed p) = unsolved-buffers 7 p (omega arith) (omega arith)
+  told-buffers s l m t Limit = unsolved-buffers 8 m (omega arith) (omega arith)
 
 -- ---- the whole solve
 
 -- Demand 1: numbers are 0 to 8. 1 to 5 change nothing lent and report zero counts; 6 to 8 change only the record and the scratch; all but 0 report totals of +0.0.
 -- Scratch is +0.0 after any solve that ran a trial; scratch past 4,096 and record bytes past the entries stay. For every sheet and all buffers.
-pub buffers : (s : List ℕ) (l : Lent) → Buffers l (solveOf s l)
-buffers s l =
-    ways repairOf s l (Buffers l)
-    (λ r e. refused-buffers (numberOf r) (placeOf r) l (number-small r)) (λ net place e q. refused-buffers 5 place l (omega arith))
-    (λ net w.
-    let es = runIn s net .entries in
-    rw (tells s net l)
-    (told-buffers l (tallied none es) (written 0 es (l .entries)) (λ i h. written-past es 0 (l .entries) i (omega (arith, tallied-trials none es))) s net (trialsOf s) (runIn s net .state) (runIn s net .ended)))
+pub buffers : (s : List ℕ) (x : Lent) → Buffers x (solveOf s x)
+buffers s x =
+    ways repairOf s x (Buffers x)
+    (λ r e. refused-buffers (numberOf r) (placeOf r) x (number-small r)) (λ l place e q. refused-buffers 5 place x (omega arith))
+    (λ l w.
+    let es = runIn s l .entries in
+    rw (tells s l x)
+    (told-buffers x (tallied none es) (written 0 es (x .entries)) (λ i h. written-past es 0 (x .entries) i (omega (arith, tallied-trials none es))) s l (trialsOf s) (runIn s l .state) (runIn s l .ended)))
 
-balanced-delivers : (s : List ℕ) (net : Net) (m : ℕ) (l : Lent) (t : State) (tally : Tally) (bytes : List ℕ) (z : Ended) → Room (net .nodes) (net .links) t
-    → told s net m l t tally bytes z .answer .number ≡ 0 → Delivered s net t l (told s net m l t tally bytes z)
+balanced-delivers : (s : List ℕ) (l : Layout) (m : ℕ) (x : Lent) (t : State) (tally : Tally) (bytes : List ℕ) (z : Ended) → Room l t
+    → told s l m x t tally bytes z .answer .number ≡ 0 → Delivered s l t x (told s l m x t tally bytes z)
 unfolding told delivered unsolved failedOf
-balanced-delivers s net m l t tally bytes Balanced r e =
-    let d = over (net .nodes) nan (settledOf (net .nodes) (t .demands)) (l .demands) (omega (arith, settled-long (net .nodes) (t .demands), r .demands)) in
+balanced-delivers s l m x t tally bytes Balanced r e =
+    let d = over (l .nodes) nan (settledOf (l .nodes) (t .demands)) (x .demands) (omega (arith, settled-long (l .nodes) (t .demands), r .demands)) in
     record {
-      heads = over (net .nodes) nan (t .heads) (l .heads) (r .heads);
-      demands = λ i h. d .first i h ∙ settled-at (net .nodes) (t .demands) (r .demands) i h;
+      heads = over (l .nodes) nan (t .heads) (x .heads) (r .heads);
+      demands = λ i h. d .first i h ∙ settled-at (l .nodes) (t .demands) (r .demands) i h;
       demands-later = d .later;
-      flows = over (net .links) nan (t .flows) (l .flows) (r .flows);
-      statuses = over (net .links) 0 (t .statuses) (l .statuses) (r .statuses);
+      flows = over (l .links) nan (t .flows) (x .flows) (r .flows);
+      statuses = over (l .links) 0 (t .statuses) (x .statuses) (r .statuses);
       demand = refl;
       supply = refl;
       error = refl;
     }
-balanced-delivers s net m l t tally bytes (Failed v) r e = absurd (let y : ⊥ = omega arith in y)
-balanced-delivers s net m l t tally bytes (Strayed p) r e = absurd (let y : ⊥ = omega arith in y)
-balanced-delivers s net m l t tally bytes Limit r e = absurd (let y : ⊥ = omega arith in y)
+balanced-delivers s l m x t tally bytes (Failed v) r e = absurd (let y : ⊥ = omega arith in y)
+balanced-delivers s l m x t tally bytes (Strayed p) r e = absurd (let y : ⊥ = omega arith in y)
+balanced-delivers s l m x t tally bytes Limit r e = absurd (let y : ⊥ = omega arith in y)
 
-run-room : (s : List ℕ) (net : Net) (l : Lent) → Runs s l net → Room (net .nodes) (net .links) (runIn s net .state)
+run-room : (s : List ℕ) (l : Layout) (x : Lent) → Runs s x l → Room l (runIn s l .state)
 unfolding pointIn startPoint
-run-room s net l w =
-    rw (solve-last-state s net)
-    (room-after s (net .nodes) (net .links) (length (runIn s net .entries)) (startPoint s net) (start-room s net (w .read)))
+run-room s l x w =
+    rw (solve-last-state s l)
+    (room-after s l (network-of s l (w .read) .unknowns) (length (runIn s l .entries)) (startPoint s l) (start-room s l (w .read)))
 
 -- On 0, heads and demands hold one entry a node, flows and statuses one a link, those of the state that the run left; later entries are untouched.
-pub delivers : (s : List ℕ) (l : Lent) (net : Net) → Runs s l net → solveOf s l .answer .number ≡ 0 → Delivered s net (runIn s net .state) l (solveOf s l)
-delivers s l net w =
-    rw (comes repairOf s l net w, tells s net l)
-    (balanced-delivers s net (trialsOf s) l (runIn s net .state) (tallied none (runIn s net .entries)) (written 0 (runIn s net .entries) (l .entries)) (runIn s net .ended) (run-room s net l w))
+pub delivers : (s : List ℕ) (x : Lent) (l : Layout) → Runs s x l → solveOf s x .answer .number ≡ 0 → Delivered s l (runIn s l .state) x (solveOf s x)
+delivers s x l w =
+    rw (comes repairOf s x l w, tells s l x)
+    (balanced-delivers s l (trialsOf s) x (runIn s l .state) (tallied none (runIn s l .entries)) (written 0 (runIn s l .entries) (x .entries)) (runIn s l .ended) (run-room s l x w))

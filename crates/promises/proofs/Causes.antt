@@ -10,7 +10,7 @@ use lib.Dec.{leb}
 use lib.Ieee.{lt, le}
 use borrow.Author.Tests.{leb-true}
 use Rattle.patterns.specs.Bytes.{fromBytes}
-use Rattle.records.specs.Records.{byteAt, shortAt, optionsOf}
+use Rattle.records.specs.Records.{byteAt, pairAt, optionsOf}
 use Rattle.fields.specs.Fields.{baseBounds, null, allWithin, optionsGood}
 use Rattle.fields.specs.declared.fields.Bounds.{Bounds}
 use Rattle.sheet.proofs.Laws.{and-left, and-right}
@@ -18,17 +18,17 @@ use Rattle.refusals.specs.Refusals.{numberOf, placeOf}
 use Rattle.refusals.specs.declared.refusals.Refusal.{Refusal}
 use Rattle.refusals.specs.declared.refusals.Refusal.the-variants.{Unreadable, NodeCount, LinkCount, Field, Ends}
 use Rattle.sheet.specs.Read.{readOf}
-use Rattle.sheet.specs.declared.layout.Found.the-variants.{At}
-use Rattle.sheet.specs.declared.reading.Net.{Net}
+use Rattle.found.specs.declared.Found.the-variants.{At}
+use Rattle.layout.specs.declared.places.Layout.{Layout}
 use Rattle.sheet.specs.declared.reading.Reading.{Reading}
 use Rattle.sheet.specs.declared.reading.Reading.the-variants.{Good, Refused}
 use Rattle.accepted.specs.Accepted.{causeOf, numberIn}
 use Rattle.accepted.proofs.Accepts.{cause, accepts}
-use Rattle.numbering.specs.declared.NodeIndex.{NodeIndex}
+use Rattle.nodes.specs.declared.NodeIndex.{NodeIndex}
 use Rattle.state.specs.State.{State}
-use Rattle.repair.specs.declared.Damping.{Damping}
-use Rattle.repair.specs.declared.Entry.{Entry}
-use Rattle.repair.specs.declared.Entry.the-variants.{Freed, Grounded, Singular, Wild, Stepped, Converged}
+use Rattle.damping.specs.declared.steps.Damping.{Damping}
+use Rattle.entries.specs.declared.Entry.{Entry}
+use Rattle.entries.specs.declared.Entry.the-variants.{Freed, Grounded, Singular, Wild, Stepped, Converged}
 use Rattle.trial.specs.Trial.{Outcome, repairOf}
 use Rattle.entries.specs.Entries.{goingOf, none, tallied}
 use Rattle.marks.specs.Marks.{written}
@@ -37,7 +37,7 @@ use Rattle.entries.specs.declared.Ended.the-variants.{Balanced, Failed, Strayed
 use Rattle.entries.specs.declared.Going.{Going}
 use Rattle.entries.specs.declared.Going.the-variants.{On, Over}
 use Rattle.entries.specs.declared.Tally.{Tally}
-use Rattle.runs.specs.Run.{after, runWith}
+use Rattle.runs.specs.Run.{thenRun, runWith}
 use Rattle.answers.specs.Answers.{Lent, Solved, failedOf, refusedOf}
 use Rattle.conclusion.specs.Conclusion.{unsolved, delivered, told}
 use Rattle.solver.specs.Solve.{trialsOf, afterShort, afterRead, solveWith, solveOf}
@@ -51,61 +51,61 @@ use Rattle.promises.proofs.Trials.{solve-each-entry}
 use Rattle.promises.proofs.Solves.{comes, ways, tells}
 use Rattle.promises.proofs.Counts.{trials-are}
 
-module _ (s : List ℕ) (net : Net) (m : ℕ) (l : Lent) (t : State) (tally : Tally) (bytes : List ℕ) where
-  told-number : (z : Ended) → told s net m l t tally bytes z .answer .number ≡ endNumber z
+module _ (s : List ℕ) (l : Layout) (m : ℕ) (x : Lent) (t : State) (tally : Tally) (bytes : List ℕ) where
+  told-number : (z : Ended) → told s l m x t tally bytes z .answer .number ≡ endNumber z
   unfolding told delivered unsolved failedOf endNumber
   told-number Balanced = refl
   told-number (Failed v) = refl
   told-number (Strayed p) = refl
   told-number Limit = refl
 
-  told-place : (z : Ended) → told s net m l t tally bytes z .answer .place ≡ endPlace m z
+  told-place : (z : Ended) → told s l m x t tally bytes z .answer .place ≡ endPlace m z
   unfolding told delivered unsolved failedOf endPlace
   told-place Balanced = refl
   told-place (Failed v) = refl
   told-place (Strayed p) = refl
   told-place Limit = refl
 
-module _ (s : List ℕ) (l : Lent) where
-  by-sheet : (r : Refusal) → readOf s ≡ Refused r → solveOf s l ≡ refusedOf (numberOf r) (placeOf r) l
+module _ (s : List ℕ) (x : Lent) where
+  by-sheet : (r : Refusal) → readOf s ≡ Refused r → solveOf s x ≡ refusedOf (numberOf r) (placeOf r) x
   unfolding solveWith afterRead
   by-sheet r e = rw e
 
-  by-buffer : (net : Net) (place : ℕ) → readOf s ≡ Good net → shortIn s net l ≡ At place → solveOf s l ≡ refusedOf 5 place l
+  by-buffer : (l : Layout) (place : ℕ) → readOf s ≡ Good l → shortIn s l x ≡ At place → solveOf s x ≡ refusedOf 5 place x
   unfolding solveWith afterRead afterShort shortIn
-  by-buffer net place e q = rw (e, q)
+  by-buffer l place e q = rw (e, q)
 
-  refused-number : (number place : ℕ) → solveOf s l ≡ refusedOf number place l → (solveOf s l .answer .number ≡ number) × (solveOf s l .answer .place ≡ place)
+  refused-number : (number place : ℕ) → solveOf s x ≡ refusedOf number place x → (solveOf s x .answer .number ≡ number) × (solveOf s x .answer .place ≡ place)
   unfolding refusedOf failedOf
   refused-number number place e = (ap (λ (o : Solved). o .answer .number) e, ap (λ (o : Solved). o .answer .place) e)
 
-  by-end : (net : Net) → Runs s l net → (solveOf s l .answer .number ≡ endNumber (runIn s net .ended)) × (solveOf s l .answer .place ≡ endPlace (trialsOf s) (runIn s net .ended))
-  by-end net w =
-      let r = runIn s net in
-      rw (comes repairOf s l net w, tells s net l) (
-        told-number s net (trialsOf s) l (r .state) (tallied none (r .entries)) (written 0 (r .entries) (l .entries)) (r .ended),
-        told-place s net (trialsOf s) l (r .state) (tallied none (r .entries)) (written 0 (r .entries) (l .entries)) (r .ended),
+  by-end : (l : Layout) → Runs s x l → (solveOf s x .answer .number ≡ endNumber (runIn s l .ended)) × (solveOf s x .answer .place ≡ endPlace (trialsOf s) (runIn s l .ended))
+  by-end l w =
+      let r = runIn s l in
+      rw (comes repairOf s x l w, tells s l x) (
+        told-number s l (trialsOf s) x (r .state) (tallied none (r .entries)) (written 0 (r .entries) (x .entries)) (r .ended),
+        told-place s l (trialsOf s) x (r .state) (tallied none (r .entries)) (written 0 (r .entries) (x .entries)) (r .ended),
       )
 
   -- Demand 1: a number and a place are told where they have their cause,
-  pub told-of-cause : (number place : ℕ) → Cause s l number place → (solveOf s l .answer .number ≡ number) × (solveOf s l .answer .place ≡ place)
+  pub told-of-cause : (number place : ℕ) → Cause s x number place → (solveOf s x .answer .number ≡ number) × (solveOf s x .answer .place ≡ place)
   told-of-cause number place (sheet r e) = refused-number (numberOf r) (placeOf r) (by-sheet r e)
-  told-of-cause number place (short net p e q) = refused-number 5 p (by-buffer net p e q)
-  told-of-cause number place (ended net w) = by-end net w
+  told-of-cause number place (short l p e q) = refused-number 5 p (by-buffer l p e q)
+  told-of-cause number place (ended l w) = by-end l w
 
   -- and in no other case.
-  pub cause-of-told : Cause s l (solveOf s l .answer .number) (solveOf s l .answer .place)
+  pub cause-of-told : Cause s x (solveOf s x .answer .number) (solveOf s x .answer .place)
   unfolding refusedOf failedOf
   cause-of-told =
-      ways repairOf s l (λ o. Cause s l (o .answer .number) (o .answer .place)) sheet short
-      (λ net w.
-      let r = runIn s net in
+      ways repairOf s x (λ o. Cause s x (o .answer .number) (o .answer .place)) sheet short
+      (λ l w.
+      let r = runIn s l in
       rw (
-        tells s net l,
-        told-number s net (trialsOf s) l (r .state) (tallied none (r .entries)) (written 0 (r .entries) (l .entries)) (r .ended),
-        told-place s net (trialsOf s) l (r .state) (tallied none (r .entries)) (written 0 (r .entries) (l .entries)) (r .ended),
+        tells s l x,
+        told-number s l (trialsOf s) x (r .state) (tallied none (r .entries)) (written 0 (r .entries) (x .entries)) (r .ended),
+        told-place s l (trialsOf s) x (r .state) (tallied none (r .entries)) (written 0 (r .entries) (x .entries)) (r .ended),
       )
-      (ended net w))
+      (ended l w))
 
 -- ---- 1 to 4
 
@@ -156,42 +156,42 @@ same-end m Limit Balanced e f = absurd (let y : ⊥ = omega arith in y)
 same-end m Limit (Failed w) e f = absurd (let y : ⊥ = omega arith in y)
 same-end m Limit (Strayed q) e f = absurd (let y : ⊥ = omega arith in y)
 
-module _ (s : List ℕ) (l : Lent) where
+module _ (s : List ℕ) (x : Lent) where
   -- A sheet that has a cause of 1 to 4 is refused with that number,
-  pub refused-by-sheet : 1 ≤ causeOf baseBounds s → solveOf s l .answer .number ≡ causeOf baseBounds s
+  pub refused-by-sheet : 1 ≤ causeOf baseBounds s → solveOf s x .answer .number ≡ causeOf baseBounds s
   refused-by-sheet h = go (readOf s) refl
     where
-      go : (r : Reading) → readOf s ≡ r → solveOf s l .answer .number ≡ causeOf baseBounds s
-      go (Refused r) e = told-of-cause s l (numberOf r) (placeOf r) (sheet r e) .0 ∙ sym (ap numberIn e) ∙ sheet-number s
-      go (Good net) e = let p : 0 ≡ causeOf baseBounds s = sym (ap numberIn e) ∙ sheet-number s in absurd (let y : ⊥ = omega arith in y)
+      go : (r : Reading) → readOf s ≡ r → solveOf s x .answer .number ≡ causeOf baseBounds s
+      go (Refused r) e = told-of-cause s x (numberOf r) (placeOf r) (sheet r e) .0 ∙ sym (ap numberIn e) ∙ sheet-number s
+      go (Good l) e = let p : 0 ≡ causeOf baseBounds s = sym (ap numberIn e) ∙ sheet-number s in absurd (let y : ⊥ = omega arith in y)
 
   -- and these numbers are given in no other case.
-  pub sheet-only : 1 ≤ solveOf s l .answer .number → solveOf s l .answer .number ≤ 4 → causeOf baseBounds s ≡ solveOf s l .answer .number
-  sheet-only a b = go (solveOf s l .answer .number) (solveOf s l .answer .place) (cause-of-told s l) a b
+  pub sheet-only : 1 ≤ solveOf s x .answer .number → solveOf s x .answer .number ≤ 4 → causeOf baseBounds s ≡ solveOf s x .answer .number
+  sheet-only a b = go (solveOf s x .answer .number) (solveOf s x .answer .place) (cause-of-told s x) a b
     where
-      go : (n p : ℕ) → Cause s l n p → 1 ≤ n → n ≤ 4 → causeOf baseBounds s ≡ n
+      go : (n p : ℕ) → Cause s x n p → 1 ≤ n → n ≤ 4 → causeOf baseBounds s ≡ n
       go n p (sheet r e) a b = sym (sheet-number s) ∙ ap numberIn e
-      go n p (short net q e f) a b = absurd (let y : ⊥ = omega arith in y)
-      go n p (ended net w) a b = absurd (end-past (runIn s net .ended) a (omega arith))
+      go n p (short l q e f) a b = absurd (let y : ⊥ = omega arith in y)
+      go n p (ended l w) a b = absurd (end-past (runIn s l .ended) a (omega arith))
 
   -- ---- 5: the lowest buffer that is too short, for an accepted sheet
-  pub short-only : solveOf s l .answer .number ≡ 5 → (net : Net) × ((readOf s ≡ Good net) × (shortIn s net l ≡ At (solveOf s l .answer .place)))
-  short-only a = go (solveOf s l .answer .number) (solveOf s l .answer .place) (cause-of-told s l) a
+  pub short-only : solveOf s x .answer .number ≡ 5 → (l : Layout) × ((readOf s ≡ Good l) × (shortIn s l x ≡ At (solveOf s x .answer .place)))
+  short-only a = go (solveOf s x .answer .number) (solveOf s x .answer .place) (cause-of-told s x) a
     where
-      go : (n p : ℕ) → Cause s l n p → n ≡ 5 → (net : Net) × ((readOf s ≡ Good net) × (shortIn s net l ≡ At p))
+      go : (n p : ℕ) → Cause s x n p → n ≡ 5 → (l : Layout) × ((readOf s ≡ Good l) × (shortIn s l x ≡ At p))
       go n p (sheet r e) a = absurd (let y : ⊥ = omega (arith, most-four r) in y)
-      go n p (short net q e f) a = (net, (e, f))
-      go n p (ended net w) a = absurd (end-past (runIn s net .ended) (omega arith) (omega arith))
+      go n p (short l q e f) a = (l, (e, f))
+      go n p (ended l w) a = absurd (end-past (runIn s l .ended) (omega arith) (omega arith))
 
   -- ---- 0, 6, 7 and 8: the run ended so
-  pub run-only : (z : Ended) → solveOf s l .answer .number ≡ endNumber z → solveOf s l .answer .place ≡ endPlace (trialsOf s) z
-      → (net : Net) × (Runs s l net × (runIn s net .ended ≡ z))
-  run-only z a b = go (solveOf s l .answer .number) (solveOf s l .answer .place) (cause-of-told s l) a b
+  pub run-only : (z : Ended) → solveOf s x .answer .number ≡ endNumber z → solveOf s x .answer .place ≡ endPlace (trialsOf s) z
+      → (l : Layout) × (Runs s x l × (runIn s l .ended ≡ z))
+  run-only z a b = go (solveOf s x .answer .number) (solveOf s x .answer .place) (cause-of-told s x) a b
     where
-      go : (n p : ℕ) → Cause s l n p → n ≡ endNumber z → p ≡ endPlace (trialsOf s) z → (net : Net) × (Runs s l net × (runIn s net .ended ≡ z))
+      go : (n p : ℕ) → Cause s x n p → n ≡ endNumber z → p ≡ endPlace (trialsOf s) z → (l : Layout) × (Runs s x l × (runIn s l .ended ≡ z))
       go n p (sheet r e) a b = absurd (end-past z (omega (arith, least-one r)) (omega (arith, most-four r)))
-      go n p (short net q e f) a b = absurd (end-past z (omega arith) (omega arith))
-      go n p (ended net w) a b = (net, (w, same-end (trialsOf s) (runIn s net .ended) z a b))
+      go n p (short l q e f) a b = absurd (end-past z (omega arith) (omega arith))
+      go n p (ended l w) a b = (l, (w, same-end (trialsOf s) (runIn s l .ended) z a b))
 
 -- ---- how a run ends
 
@@ -230,22 +230,22 @@ last-on e es z h q =
 last-one : (e : Entry) → endBy (getD (e ∷ []) (length (e ∷ []) - 1) Converged) ≡ endBy e
 last-one e = refl
 
-module _ (s : List ℕ) (n k : ℕ) where
-  last-of : (m : ℕ) (d d' : Damping) (e : Entry) (t : State) → goingOf d e ≡ On d' → EndsBy m (runWith repairOf s n k m d' t)
-      → runWith repairOf s n k m d' t .ended ≡ endBy (getD (e ∷ runWith repairOf s n k m d' t .entries) (length (e ∷ runWith repairOf s n k m d' t .entries) - 1) Converged)
+module _ (s : List ℕ) (l : Layout) where
+  last-of : (m : ℕ) (d d' : Damping) (e : Entry) (t : State) → goingOf d e ≡ On d' → EndsBy m (runWith repairOf s l m d' t)
+      → runWith repairOf s l m d' t .ended ≡ endBy (getD (e ∷ runWith repairOf s l m d' t .entries) (length (e ∷ runWith repairOf s l m d' t .entries) - 1) Converged)
   unfolding runWith
   last-of zero d d' e t g w = sym (last-one e ∙ going-end d d' e g)
   last-of (suc m) d d' e t g w =
-      let r = runWith repairOf s n k (suc m) d' t in
+      let r = runWith repairOf s l (suc m) d' t in
       last-on e (r .entries) (r .ended) (w .some (omega arith)) (w .last (omega arith))
 
   -- A run ends as its last entry tells, every earlier entry is one after which it goes on, and the limit is told only where all allowed trials were taken.
-  pub ends-by : (m : ℕ) (p : Point) → EndsBy m (runAt s n k m p)
-  unfolding runWith after
+  pub ends-by : (m : ℕ) (p : Point) → EndsBy m (runAt s l m p)
+  unfolding runWith thenRun
   ends-by zero p = record { some = λ h. h; last = λ h. absurd (let y : ⊥ = omega arith in y); on = λ i h. absurd (let y : ⊥ = omega arith in y); limit = λ h. refl }
-  ends-by (suc m) p = go (trialAt s n k p) (goingOf (p .damping) (trialAt s n k p .entry)) refl (ends-by m)
+  ends-by (suc m) p = go (trialAt s l p) (goingOf (p .damping) (trialAt s l p .entry)) refl (ends-by m)
     where
-      go : (o : Outcome) (g : Going) → goingOf (p .damping) (o .entry) ≡ g → ((p : Point) → EndsBy m (runAt s n k m p)) → EndsBy (suc m) (after (o .entry) (o .state) g (runWith repairOf s n k m))
+      go : (o : Outcome) (g : Going) → goingOf (p .damping) (o .entry) ≡ g → ((p : Point) → EndsBy m (runAt s l m p)) → EndsBy (suc m) (thenRun (o .entry) (o .state) g (runWith repairOf s l m))
       go o (On d') e ih =
           let w = ih (point d' (o .state)) in
           record {
@@ -255,8 +255,8 @@ module _ (s : List ℕ) (n k : ℕ) where
             limit = λ h. omega (arith, w .limit h);
           }
         where
-          onward : EndsBy m (runWith repairOf s n k m d' (o .state)) → (i : ℕ) → suc i < length (o .entry ∷ runWith repairOf s n k m d' (o .state) .entries)
-              → endBy (getD (o .entry ∷ runWith repairOf s n k m d' (o .state) .entries) i Converged) ≡ Limit
+          onward : EndsBy m (runWith repairOf s l m d' (o .state)) → (i : ℕ) → suc i < length (o .entry ∷ runWith repairOf s l m d' (o .state) .entries)
+              → endBy (getD (o .entry ∷ runWith repairOf s l m d' (o .state) .entries) i Converged) ≡ Limit
           onward w zero h = going-end (p .damping) d' (o .entry) e
           onward w (suc i) h = w .on i (omega arith)
       go o (Over z) e ih =
@@ -268,25 +268,25 @@ module _ (s : List ℕ) (n k : ℕ) where
           }
 
 -- Of the solve of any sheet: the number and the place, which are those of its end, are told by its last entry.
-pub solve-ends-by : (s : List ℕ) (net : Net) → EndsBy (trialsOf s) (runIn s net)
+pub solve-ends-by : (s : List ℕ) (l : Layout) → EndsBy (trialsOf s) (runIn s l)
 unfolding runIn
-solve-ends-by s net = ends-by s (net .nodes) (net .links) (trialsOf s) (startPoint s net)
+solve-ends-by s l = ends-by s l (trialsOf s) (startPoint s l)
 
-options-some : (b : Bounds) (s : List ℕ) → optionsGood b s ≡ true → 1 ≤ shortAt s 26
+options-some : (b : Bounds) (s : List ℕ) → optionsGood b s ≡ true → 1 ≤ pairAt s 26
 unfolding optionsGood
 options-some b s h =
     let e = allWithin b 3 s 2 && lt null (fromBytes s 2) && le null (fromBytes s 10) && le null (fromBytes s 18) in
-    let f = leb 1 (shortAt s 26) in
-    let g = leb (shortAt s 26) (b .trials) in
-    leb-true 1 (shortAt s 26) (and-right e f (and-left (e && f) g (and-left (e && f && g) (leb (byteAt s 28) (b .unit)) h)))
+    let f = leb 1 (pairAt s 26) in
+    let g = leb (pairAt s 26) (b .trials) in
+    leb-true 1 (pairAt s 26) (and-right e f (and-left (e && f) g (and-left (e && f && g) (leb (byteAt s 28) (b .unit)) h)))
 
-some-trials : (s : List ℕ) (net : Net) → readOf s ≡ Good net → 1 ≤ trialsOf s
+some-trials : (s : List ℕ) (l : Layout) → readOf s ≡ Good l → 1 ≤ trialsOf s
 unfolding readOf optionsOf
-some-trials s net h = options-some baseBounds s (accepts baseBounds s (net .nodes) (net .links) h .options)
+some-trials s l h = options-some baseBounds s (accepts baseBounds s l h .options)
 
 -- A solve that is not refused for its sheet or its buffers runs a trial.
-pub runs-a-trial : (s : List ℕ) (l : Lent) (net : Net) → Runs s l net → 1 ≤ solveOf s l .answer .trials
-runs-a-trial s l net w = omega (arith, trials-are s l net w, solve-ends-by s net .some (some-trials s net (w .read)))
+pub runs-a-trial : (s : List ℕ) (x : Lent) (l : Layout) → Runs s x l → 1 ≤ solveOf s x .answer .trials
+runs-a-trial s x l w = omega (arith, trials-are s x l w, solve-ends-by s l .some (some-trials s l (w .read)))
 
 -- ---- what the last trial came to
 
@@ -317,67 +317,67 @@ by-strayed q (Wild p) h = cc
 by-strayed q (Stepped d) h = other (cc)
 by-strayed q Converged h = other (cc)
 
-module _ (s : List ℕ) (l : Lent) (net : Net) (w : Runs s l net) where
-  last-tells : (z : Ended) → runIn s net .ended ≡ z → endBy (lastIn s net) ≡ z
+module _ (s : List ℕ) (x : Lent) (l : Layout) (w : Runs s x l) where
+  last-tells : (z : Ended) → runIn s l .ended ≡ z → endBy (lastIn s l) ≡ z
   unfolding lastIn
-  last-tells z e = sym (solve-ends-by s net .last (some-trials s net (w .read))) ∙ e
+  last-tells z e = sym (solve-ends-by s l .last (some-trials s l (w .read))) ∙ e
 
-  last-is : lastIn s net ≡ trialAt s (net .nodes) (net .links) (beforeLast s net) .entry
+  last-is : lastIn s l ≡ trialAt s l (beforeLast s l) .entry
   unfolding lastIn beforeLast
-  last-is = solve-each-entry s net (length (runIn s net .entries) - 1) (omega (arith, solve-ends-by s net .some (some-trials s net (w .read))))
+  last-is = solve-each-entry s l (length (runIn s l .entries) - 1) (omega (arith, solve-ends-by s l .some (some-trials s l (w .read))))
 
-  at-converged : (z : Ended) → runIn s net .ended ≡ z → endNumber z ≡ 0 → lastIn s net ≡ Converged
+  at-converged : (z : Ended) → runIn s l .ended ≡ z → endNumber z ≡ 0 → lastIn s l ≡ Converged
   unfolding endNumber
-  at-converged Balanced e h = by-converged (lastIn s net) (last-tells Balanced e)
+  at-converged Balanced e h = by-converged (lastIn s l) (last-tells Balanced e)
   at-converged (Failed v) e h = absurd (let y : ⊥ = omega arith in y)
   at-converged (Strayed p) e h = absurd (let y : ⊥ = omega arith in y)
   at-converged Limit e h = absurd (let y : ⊥ = omega arith in y)
 
-  at-failed : (z : Ended) → runIn s net .ended ≡ z → endNumber z ≡ 6 → Refuses s (net .nodes) (net .links) (beforeLast s net .state) (endPlace (trialsOf s) z)
+  at-failed : (z : Ended) → runIn s l .ended ≡ z → endNumber z ≡ 6 → Refuses s l (beforeLast s l .state) (endPlace (trialsOf s) z)
   unfolding endNumber endPlace
   at-failed Balanced e h = absurd (let y : ⊥ = omega arith in y)
-  at-failed (Failed v) e h = refused-only s (net .nodes) (net .links) (beforeLast s net .damping) (beforeLast s net .state) v (sym last-is ∙ by-failed v (lastIn s net) (last-tells (Failed v) e))
+  at-failed (Failed v) e h = refused-only s l (beforeLast s l .damping) (beforeLast s l .state) v (sym last-is ∙ by-failed v (lastIn s l) (last-tells (Failed v) e))
   at-failed (Strayed p) e h = absurd (let y : ⊥ = omega arith in y)
   at-failed Limit e h = absurd (let y : ⊥ = omega arith in y)
 
-  at-strayed : (z : Ended) → runIn s net .ended ≡ z → endNumber z ≡ 7 → lastIn s net ≡ Wild (endPlace (trialsOf s) z)
+  at-strayed : (z : Ended) → runIn s l .ended ≡ z → endNumber z ≡ 7 → lastIn s l ≡ Wild (endPlace (trialsOf s) z)
   unfolding endNumber endPlace
   at-strayed Balanced e h = absurd (let y : ⊥ = omega arith in y)
   at-strayed (Failed v) e h = absurd (let y : ⊥ = omega arith in y)
-  at-strayed (Strayed p) e h = by-strayed p (lastIn s net) (last-tells (Strayed p) e)
+  at-strayed (Strayed p) e h = by-strayed p (lastIn s l) (last-tells (Strayed p) e)
   at-strayed Limit e h = absurd (let y : ⊥ = omega arith in y)
 
-  at-limit : (z : Ended) → runIn s net .ended ≡ z → endNumber z ≡ 8 → length (runIn s net .entries) ≡ trialsOf s
+  at-limit : (z : Ended) → runIn s l .ended ≡ z → endNumber z ≡ 8 → length (runIn s l .entries) ≡ trialsOf s
   unfolding endNumber
   at-limit Balanced e h = absurd (let y : ⊥ = omega arith in y)
   at-limit (Failed v) e h = absurd (let y : ⊥ = omega arith in y)
   at-limit (Strayed p) e h = absurd (let y : ⊥ = omega arith in y)
-  at-limit Limit e h = solve-ends-by s net .limit e
+  at-limit Limit e h = solve-ends-by s l .limit e
 
 -- a number of a run is told only where the run came to it
-of-run : (s : List ℕ) (l : Lent) (P : Net → ℕ → Type 0) (c : ℕ) → (c ≡ 0) ⊎ (6 ≤ c)
-    → ((net : Net) → Runs s l net → endNumber (runIn s net .ended) ≡ c → P net (endPlace (trialsOf s) (runIn s net .ended)))
-    → solveOf s l .answer .number ≡ c → (net : Net) × (Runs s l net × P net (solveOf s l .answer .place))
-of-run s l P c low f a = go (solveOf s l .answer .number) (solveOf s l .answer .place) (cause-of-told s l) a
+of-run : (s : List ℕ) (x : Lent) (P : Layout → ℕ → Type 0) (c : ℕ) → (c ≡ 0) ⊎ (6 ≤ c)
+    → ((l : Layout) → Runs s x l → endNumber (runIn s l .ended) ≡ c → P l (endPlace (trialsOf s) (runIn s l .ended)))
+    → solveOf s x .answer .number ≡ c → (l : Layout) × (Runs s x l × P l (solveOf s x .answer .place))
+of-run s x P c low f a = go (solveOf s x .answer .number) (solveOf s x .answer .place) (cause-of-told s x) a
   where
-    go : (n p : ℕ) → Cause s l n p → n ≡ c → (net : Net) × (Runs s l net × P net p)
+    go : (n p : ℕ) → Cause s x n p → n ≡ c → (l : Layout) × (Runs s x l × P l p)
     go n p (sheet r e) a = absurd (let y : ⊥ = ⊎-elim (λ (q : c ≡ 0). omega (arith, least-one r)) (λ (q : 6 ≤ c). omega (arith, most-four r)) low in y)
-    go n p (short net q e g) a = absurd (let y : ⊥ = ⊎-elim (λ (q : c ≡ 0). omega arith) (λ (q : 6 ≤ c). omega arith) low in y)
-    go n p (ended net w) a = (net, (w, f net w a))
+    go n p (short l q e g) a = absurd (let y : ⊥ = ⊎-elim (λ (q : c ≡ 0). omega arith) (λ (q : 6 ≤ c). omega arith) low in y)
+    go n p (ended l w) a = (l, (w, f l w a))
 
-module _ (s : List ℕ) (l : Lent) where
+module _ (s : List ℕ) (x : Lent) where
   -- 0: the last trial converged.
-  pub zero-converged : solveOf s l .answer .number ≡ 0 → (net : Net) × (Runs s l net × (lastIn s net ≡ Converged))
-  zero-converged = of-run s l (λ net p. lastIn s net ≡ Converged) 0 (inl refl) (λ net w a. at-converged s l net w (runIn s net .ended) refl a)
+  pub zero-converged : solveOf s x .answer .number ≡ 0 → (l : Layout) × (Runs s x l × (lastIn s l ≡ Converged))
+  zero-converged = of-run s x (λ l p. lastIn s l ≡ Converged) 0 (inl refl) (λ l w a. at-converged s x l w (runIn s l .ended) refl a)
 
   -- 6: the last trial's factorization stopped at the place, which no Active PRV or PSV touches and which is grounded already.
-  pub six-singular : solveOf s l .answer .number ≡ 6 → (net : Net) × (Runs s l net × Refuses s (net .nodes) (net .links) (beforeLast s net .state) (solveOf s l .answer .place))
-  six-singular = of-run s l (λ net p. Refuses s (net .nodes) (net .links) (beforeLast s net .state) p) 6 (inr (omega arith)) (λ net w a. at-failed s l net w (runIn s net .ended) refl a)
+  pub six-singular : solveOf s x .answer .number ≡ 6 → (l : Layout) × (Runs s x l × Refuses s l (beforeLast s l .state) (solveOf s x .answer .place))
+  six-singular = of-run s x (λ l p. Refuses s l (beforeLast s l .state) p) 6 (inr (omega arith)) (λ l w a. at-failed s x l w (runIn s l .ended) refl a)
 
   -- 7: the last trial stepped to a head or flow at the place that is NaN, infinite or at least 2^64 in magnitude.
-  pub seven-wild : solveOf s l .answer .number ≡ 7 → (net : Net) × (Runs s l net × (lastIn s net ≡ Wild (solveOf s l .answer .place)))
-  seven-wild = of-run s l (λ net p. lastIn s net ≡ Wild p) 7 (inr (omega arith)) (λ net w a. at-strayed s l net w (runIn s net .ended) refl a)
+  pub seven-wild : solveOf s x .answer .number ≡ 7 → (l : Layout) × (Runs s x l × (lastIn s l ≡ Wild (solveOf s x .answer .place)))
+  seven-wild = of-run s x (λ l p. lastIn s l ≡ Wild p) 7 (inr (omega arith)) (λ l w a. at-strayed s x l w (runIn s l .ended) refl a)
 
   -- 8: every allowed trial was used up.
-  pub eight-limit : solveOf s l .answer .number ≡ 8 → (net : Net) × (Runs s l net × (length (runIn s net .entries) ≡ trialsOf s))
-  eight-limit = of-run s l (λ net p. length (runIn s net .entries) ≡ trialsOf s) 8 (inr (omega arith)) (λ net w a. at-limit s l net w (runIn s net .ended) refl a)
+  pub eight-limit : solveOf s x .answer .number ≡ 8 → (l : Layout) × (Runs s x l × (length (runIn s l .entries) ≡ trialsOf s))
+  eight-limit = of-run s x (λ l p. length (runIn s l .entries) ≡ trialsOf s) 8 (inr (omega arith)) (λ l w a. at-limit s x l w (runIn s l .ended) refl a)

@@ -11,19 +11,20 @@ use lib.Ieee.{Float}
 use Rattle.records.specs.Records.{optionsOf}
 use Rattle.records.specs.declared.records.Options.{Options}
 use Rattle.damping.specs.Damping.{convergedOf, relativeChange}
-use Rattle.sheet.specs.declared.layout.Found.{Found}
-use Rattle.sheet.specs.declared.layout.Found.the-variants.{At, Nothing}
-use Rattle.sheet.specs.declared.reading.Net.{Net}
+use Rattle.found.specs.declared.Found.{Found}
+use Rattle.found.specs.declared.Found.the-variants.{At, Nothing}
+use Rattle.layout.specs.declared.places.Layout.{Layout}
 use Rattle.wild.specs.Wild.{wildPlace}
 use Rattle.wild.proofs.Wilds.{wild-below}
-use Rattle.update.specs.Update.{step, updateOf}
+use Rattle.update.specs.Update.{basis, updateOf}
 use Rattle.update.specs.declared.Stats.{Stats}
+use Rattle.state.specs.Network.{Network}
 use Rattle.state.specs.State.{State, solvedHeads}
-use Rattle.repair.specs.declared.LinkIndex.{LinkIndex}
-use Rattle.numbering.specs.declared.NodeIndex.{NodeIndex}
-use Rattle.repair.specs.declared.Damping.{Damping}
-use Rattle.repair.specs.declared.Entry.{Entry}
-use Rattle.repair.specs.declared.Entry.the-variants.{Freed, Grounded, Singular, Wild, Stepped, Converged}
+use Rattle.links.specs.declared.LinkIndex.{LinkIndex}
+use Rattle.nodes.specs.declared.NodeIndex.{NodeIndex}
+use Rattle.damping.specs.declared.steps.Damping.{Damping}
+use Rattle.entries.specs.declared.Entry.{Entry}
+use Rattle.entries.specs.declared.Entry.the-variants.{Freed, Grounded, Singular, Wild, Stepped, Converged}
 use Rattle.trial.specs.Trial.{repairOf, judged, verdict, stepOf, trialOf}
 use Rattle.entries.specs.Entries.{counted, tallied, none}
 use Rattle.marks.specs.Marks.{markOf, putOf, written}
@@ -124,8 +125,8 @@ written-past (e ∷ es) i r p h = written-past es (suc i) (putOf r i (markOf e))
 
 pub written-shows : (es : List Entry) (i : ℕ) (r : List ℕ) → 4 * (i + length es) ≤ length r → (j : ℕ) → j < length es → Shown (written i es r) (i + j) (getD es j Converged)
 unfolding written
-written-shows [] i r h j l = absurd (let y : ⊥ = omega arith in y)
-written-shows (e ∷ es) i r h zero l =
+written-shows [] i r h j x = absurd (let y : ⊥ = omega arith in y)
+written-shows (e ∷ es) i r h zero x =
     let x = putOf r i (markOf e) in
     let p : i + 0 ≡ i = omega arith in
     let long : 4 * i + 4 ≤ length r = omega arith in
@@ -136,7 +137,7 @@ written-shows (e ∷ es) i r h zero l =
       low = written-before es (suc i) x (4 * i + 2) (omega arith) ∙ put-low r i (markOf e) long;
       high = written-before es (suc i) x (4 * i + 3) (omega arith) ∙ put-high r i (markOf e) long;
     })
-written-shows (e ∷ es) i r h (suc j) l =
+written-shows (e ∷ es) i r h (suc j) x =
     let p : i + suc j ≡ suc i + j = omega arith in
     rw p (written-shows es (suc i) (putOf r i (markOf e)) (omega (arith, put-long r i (markOf e))) j (omega arith))
 
@@ -164,15 +165,15 @@ count-entries : (a b : ℕ) (es : List Entry) (f : ℕ → Bool) → ((j : ℕ) 
 unfolding having count
 count-entries a b [] f h = refl
 count-entries a b (e ∷ es) f h =
-    count-front (length es) f ∙ rw (h 0 (omega arith), count-entries a b es (λ i. f (suc i)) (λ j l. h (suc j) (omega arith)))
+    count-front (length es) f ∙ rw (h 0 (omega arith), count-entries a b es (λ i. f (suc i)) (λ j x. h (suc j) (omega arith)))
 
 count-marks : (a b : ℕ) (es : List Entry) (r : List ℕ) → 4 * length es ≤ length r → count (length es) (marked a b (written 0 es r)) ≡ having a b es
 unfolding marked has
 count-marks a b es r h =
     count-entries a b es (marked a b (written 0 es r))
-    (λ j l.
+    (λ j x.
     let p : 0 + j ≡ j = omega arith in
-    let w = rw p at (written-shows es 0 r (omega arith) j l) in
+    let w = rw p at (written-shows es 0 r (omega arith) j x) in
     rw (w .first, w .second))
 
 record Agrees (t : Tally) (es : List Entry) : Type 0 where
@@ -192,62 +193,62 @@ agrees t (Converged ∷ es) = let h = agrees (counted t Converged) es in record 
 -- ---- the whole solve
 
 -- whatever its end, a run's tally and bytes are told
-told-tally : (s : List ℕ) (net : Net) (m : ℕ) (l : Lent) (t : State) (tally : Tally) (bytes : List ℕ) (z : Ended)
+told-tally : (s : List ℕ) (l : Layout) (m : ℕ) (x : Lent) (t : State) (tally : Tally) (bytes : List ℕ) (z : Ended)
     → (P : ℕ → ℕ → ℕ → List ℕ → Type 0) → P (tally .trials) (tally .freed) (tally .grounded) bytes
-    → P (told s net m l t tally bytes z .answer .trials) (told s net m l t tally bytes z .answer .freed) (told s net m l t tally bytes z .answer .grounded) (told s net m l t tally bytes z .lent .entries)
+    → P (told s l m x t tally bytes z .answer .trials) (told s l m x t tally bytes z .answer .freed) (told s l m x t tally bytes z .answer .grounded) (told s l m x t tally bytes z .lent .entries)
 unfolding told delivered unsolved failedOf
-told-tally s net m l t tally bytes Balanced P h = h
-told-tally s net m l t tally bytes (Failed n) P h = h
-told-tally s net m l t tally bytes (Strayed p) P h = h
-told-tally s net m l t tally bytes Limit P h = h
+told-tally s l m x t tally bytes Balanced P h = h
+told-tally s l m x t tally bytes (Failed n) P h = h
+told-tally s l m x t tally bytes (Strayed p) P h = h
+told-tally s l m x t tally bytes Limit P h = h
 
-refused-counts : (number place : ℕ) (l : Lent) → Counted (refusedOf number place l)
+refused-counts : (number place : ℕ) (x : Lent) → Counted (refusedOf number place x)
 unfolding refusedOf failedOf count
-refused-counts number place l = record { freed = refl; grounded = refl }
+refused-counts number place x = record { freed = refl; grounded = refl }
 
-module _ (s : List ℕ) (l : Lent) where
-  room : (net : Net) → Runs s l net → 4 * length (runIn s net .entries) ≤ length (l .entries)
+module _ (s : List ℕ) (x : Lent) where
+  room : (l : Layout) → Runs s x l → 4 * length (runIn s l .entries) ≤ length (x .entries)
   unfolding runIn startPoint
-  room net w = omega (arith, run-length repairOf s (net .nodes) (net .links) (trialsOf s) (startPoint s net .damping) (startPoint s net .state), runs-enough s l net w .entries)
+  room l w = omega (arith, run-length repairOf s l (trialsOf s) (startPoint s l .damping) (startPoint s l .state), runs-enough s x l w .entries)
 
   -- what holds of the run's tally and bytes holds of the solve's
-  in-solve : (net : Net) → Runs s l net → (P : ℕ → ℕ → ℕ → List ℕ → Type 0)
-      → P (tallied none (runIn s net .entries) .trials) (tallied none (runIn s net .entries) .freed) (tallied none (runIn s net .entries) .grounded) (written 0 (runIn s net .entries) (l .entries))
-      → P (solveOf s l .answer .trials) (solveOf s l .answer .freed) (solveOf s l .answer .grounded) (solveOf s l .lent .entries)
-  in-solve net w P h =
-      rw (comes repairOf s l net w, tells s net l)
-      (told-tally s net (trialsOf s) l (runIn s net .state) (tallied none (runIn s net .entries)) (written 0 (runIn s net .entries) (l .entries)) (runIn s net .ended) P h)
+  in-solve : (l : Layout) → Runs s x l → (P : ℕ → ℕ → ℕ → List ℕ → Type 0)
+      → P (tallied none (runIn s l .entries) .trials) (tallied none (runIn s l .entries) .freed) (tallied none (runIn s l .entries) .grounded) (written 0 (runIn s l .entries) (x .entries))
+      → P (solveOf s x .answer .trials) (solveOf s x .answer .freed) (solveOf s x .answer .grounded) (solveOf s x .lent .entries)
+  in-solve l w P h =
+      rw (comes repairOf s x l w, tells s l x)
+      (told-tally s l (trialsOf s) x (runIn s l .state) (tallied none (runIn s l .entries)) (written 0 (runIn s l .entries) (x .entries)) (runIn s l .ended) P h)
 
-  run-counts : (net : Net) → Runs s l net → Counted (solveOf s l)
-  run-counts net w =
-      let es = runIn s net .entries in
+  run-counts : (l : Layout) → Runs s x l → Counted (solveOf s x)
+  run-counts l w =
+      let es = runIn s l .entries in
       let a = agrees none es in
       let n : tallied none es .trials ≡ length es = omega (arith, tallied-trials none es) in
       let f : tallied none es .freed ≡ having 86 70 es = omega (arith, a .freed) in
       let g : tallied none es .grounded ≡ having 71 78 es = omega (arith, a .grounded) in
       record {
-        freed = in-solve net w (λ trials freed grounded bytes. freed ≡ count trials (marked 86 70 bytes)) (rw (n, f) (sym (count-marks 86 70 es (l .entries) (room net w))));
-        grounded = in-solve net w (λ trials freed grounded bytes. grounded ≡ count trials (marked 71 78 bytes)) (rw (n, g) (sym (count-marks 71 78 es (l .entries) (room net w))));
+        freed = in-solve l w (λ trials freed grounded bytes. freed ≡ count trials (marked 86 70 bytes)) (rw (n, f) (sym (count-marks 86 70 es (x .entries) (room l w))));
+        grounded = in-solve l w (λ trials freed grounded bytes. grounded ≡ count trials (marked 71 78 bytes)) (rw (n, g) (sym (count-marks 71 78 es (x .entries) (room l w))));
       }
 
   -- Demand 3: freed and grounded count the VF and GN among the entries of the record. For every sheet and all buffers.
-  pub counts : Counted (solveOf s l)
+  pub counts : Counted (solveOf s x)
   counts =
-      ways repairOf s l Counted
-      (λ r e. refused-counts _ _ l) (λ net place e q. refused-counts 5 place l)
-      (λ net w. rw (comes repairOf s l net w) at (run-counts net w))
+      ways repairOf s x Counted
+      (λ r e. refused-counts _ _ x) (λ l place e q. refused-counts 5 place x)
+      (λ l w. rw (comes repairOf s x l w) at (run-counts l w))
 
-  module _ (net : Net) (w : Runs s l net) where
+  module _ (l : Layout) (w : Runs s x l) where
     -- The trial count is the number of entries.
-    pub trials-are : solveOf s l .answer .trials ≡ length (runIn s net .entries)
-    trials-are = in-solve net w (λ trials freed grounded bytes. trials ≡ length (runIn s net .entries)) (omega (arith, tallied-trials none (runIn s net .entries)))
+    pub trials-are : solveOf s x .answer .trials ≡ length (runIn s l .entries)
+    trials-are = in-solve l w (λ trials freed grounded bytes. trials ≡ length (runIn s l .entries)) (omega (arith, tallied-trials none (runIn s l .entries)))
 
     -- Every trial's entry stands in the record, in its place.
-    pub shown : (i : ℕ) → i < length (runIn s net .entries) → Shown (solveOf s l .lent .entries) i (getD (runIn s net .entries) i Converged)
+    pub shown : (i : ℕ) → i < length (runIn s l .entries) → Shown (solveOf s x .lent .entries) i (getD (runIn s l .entries) i Converged)
     shown i h =
         let p : 0 + i ≡ i = omega arith in
-        in-solve net w (λ trials freed grounded bytes. Shown bytes i (getD (runIn s net .entries) i Converged))
-        (rw p at (written-shows (runIn s net .entries) 0 (l .entries) (omega (arith, room net w)) i h))
+        in-solve l w (λ trials freed grounded bytes. Shown bytes i (getD (runIn s l .entries) i Converged))
+        (rw p at (written-shows (runIn s l .entries) 0 (x .entries) (omega (arith, room l w)) i h))
 
 -- ---- the record shows no other repair
 
@@ -274,13 +275,13 @@ gn (Wild p) h = never h
 gn (Stepped d) h = never h
 gn Converged h = never h
 
-module _ (s : List ℕ) (l : Lent) (net : Net) (w : Runs s l net) (i : ℕ) (h : i < length (runIn s net .entries)) where
+module _ (s : List ℕ) (x : Lent) (l : Layout) (w : Runs s x l) (i : ℕ) (h : i < length (runIn s l .entries)) where
   -- An entry marked VF is that of a trial that freed a valve, and one marked GN that of a trial that grounded a node: the record shows no other repair.
-  pub vf-freed : marked 86 70 (solveOf s l .lent .entries) i ≡ true → (j : LinkIndex) × (getD (runIn s net .entries) i Converged ≡ Freed j)
-  vf-freed e = vf (getD (runIn s net .entries) i Converged) (sym (shows (solveOf s l .lent .entries) i (getD (runIn s net .entries) i Converged) (shown s l net w i h) 86 70) ∙ e)
+  pub vf-freed : marked 86 70 (solveOf s x .lent .entries) i ≡ true → (j : LinkIndex) × (getD (runIn s l .entries) i Converged ≡ Freed j)
+  vf-freed e = vf (getD (runIn s l .entries) i Converged) (sym (shows (solveOf s x .lent .entries) i (getD (runIn s l .entries) i Converged) (shown s x l w i h) 86 70) ∙ e)
 
-  pub gn-grounded : marked 71 78 (solveOf s l .lent .entries) i ≡ true → (v : NodeIndex) × (getD (runIn s net .entries) i Converged ≡ Grounded v)
-  gn-grounded e = gn (getD (runIn s net .entries) i Converged) (sym (shows (solveOf s l .lent .entries) i (getD (runIn s net .entries) i Converged) (shown s l net w i h) 71 78) ∙ e)
+  pub gn-grounded : marked 71 78 (solveOf s x .lent .entries) i ≡ true → (v : NodeIndex) × (getD (runIn s l .entries) i Converged ≡ Grounded v)
+  gn-grounded e = gn (getD (runIn s l .entries) i Converged) (sym (shows (solveOf s x .lent .entries) i (getD (runIn s l .entries) i Converged) (shown s x l w i h) 71 78) ∙ e)
 
 -- ---- the two bytes hold the number: it is below 192
 
@@ -297,28 +298,28 @@ unfolding verdict markOf
 verdict-small (At p) o d m h = h p refl
 verdict-small Nothing o d m h = judged-small o d m
 
-module _ (s : List ℕ) (n k : ℕ) (d : Damping) (t : State) (nodes : n ≤ 64) (links : k ≤ 128) where
-  step-small : (g y x : List Float) → markOf (stepOf s n k d t g y x .entry) .2 < 192
+module _ (s : List ℕ) (l : Layout) (d : Damping) (t : State) (net : Network l s) where
+  step-small : (g y x : List Float) → markOf (stepOf s l d t g y x .entry) .2 < 192
   unfolding stepOf
   step-small g y x =
-      let a = solvedHeads s x n (t .heads) in
-      let u = updateOf s n k (step a g y (d .factor)) (t .flows) (t .statuses) in
-      verdict-small (wildPlace n k a (u .flows)) (optionsOf s) d (u .stats) (λ p e. omega (arith, wild-below n k a (u .flows) p nodes e, links))
+      let a = solvedHeads s l x (l .nodes) (t .heads) in
+      let u = updateOf s l (basis a g y (d .factor)) (t .flows) (t .statuses) in
+      verdict-small (wildPlace (l .nodes) (l .links) a (u .flows)) (optionsOf s) d (u .stats) (λ p e. omega (arith, wild-below (l .nodes) (l .links) a (u .flows) p (net .nodes) e, net .links))
 
-  trial-small : markOf (trialOf s n k d t .entry) .2 < 192
+  trial-small : markOf (trialOf s l d t .entry) .2 < 192
   unfolding markOf
   trial-small =
-      repairs.ways s n k d t (λ o. markOf (o .entry) .2 < 192)
-      (λ j w. omega (arith, w .lowest .one, links)) (λ v w. omega (arith, stop-node s n k t v (w .stops) .0, nodes))
-      (λ v w. omega (arith, stop-node s n k t v (w .stops) .0, nodes)) step-small
+      repairs.ways s l d t (λ o. markOf (o .entry) .2 < 192)
+      (λ j w. omega (arith, w .lowest .one, net .links)) (λ v w. omega (arith, stop-node s l (net .unknowns) t v (w .stops) .0, net .nodes))
+      (λ v w. omega (arith, stop-node s l (net .unknowns) t v (w .stops) .0, net .nodes)) step-small
 
 -- An entry's number can be read from its two bytes, the lower first.
-pub number-shown : (s : List ℕ) (l : Lent) (net : Net) → Runs s l net → (i : ℕ) → i < length (runIn s net .entries)
-    → getD (solveOf s l .lent .entries) (4 * i + 2) 0 + 256 * getD (solveOf s l .lent .entries) (4 * i + 3) 0 ≡ markOf (getD (runIn s net .entries) i Converged) .2
-number-shown s l net w i h =
-    let x = shown s l net w i h in
-    let c = network-of s net (w .read) in
-    let p = pointIn s net i in
-    let small = trial-small s (net .nodes) (net .links) (p .damping) (p .state) (c .nodes) (c .links) in
-    let same = ap (λ (e : Entry). markOf e .2) (solve-each-entry s net i h) in
-    omega (arith, x .low, x .high, small, same)
+pub number-shown : (s : List ℕ) (x : Lent) (l : Layout) → Runs s x l → (i : ℕ) → i < length (runIn s l .entries)
+    → getD (solveOf s x .lent .entries) (4 * i + 2) 0 + 256 * getD (solveOf s x .lent .entries) (4 * i + 3) 0 ≡ markOf (getD (runIn s l .entries) i Converged) .2
+number-shown s x l w i h =
+    let y = shown s x l w i h in
+    let c = network-of s l (w .read) in
+    let p = pointIn s l i in
+    let small = trial-small s l (p .damping) (p .state) c in
+    let same = ap (λ (e : Entry). markOf e .2) (solve-each-entry s l i h) in
+    omega (arith, y .low, y .high, small, same)

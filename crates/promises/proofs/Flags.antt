@@ -8,15 +8,15 @@ use native.Mathlib.Nat.{eq-or-lt-of-le}
 use native.Mathlib.Omega.{arith}
 use borrow.Author.Tests.{leb-true, eq-eqb, ne-eqb}
 use lib.Dec.{leb, eqb}
-use Rattle.records.specs.Offsets.{nodeOffset}
+use Rattle.layout.specs.Places.{nodePlace}
 use Rattle.records.specs.Records.{byteAt, nodeAt}
 use Rattle.fields.specs.Fields.{baseBounds, allWithin, nodeGood}
 use Rattle.sheet.specs.Read.{readOf}
 use Rattle.sheet.specs.declared.reading.Reading.the-variants.{Good}
-use Rattle.sheet.specs.declared.reading.Net.{Net}
+use Rattle.layout.specs.declared.places.Layout.{Layout}
 use Rattle.sheet.proofs.Laws.{and-left, and-right}
 use Rattle.accepted.proofs.Accepts.{accepts}
-use Rattle.nodes.specs.Fields.{enabled}
+use Rattle.nodes.specs.Nodes.{enabled, nodeOf}
 
 flag : (s : List ℕ) (at : ℕ) → nodeGood baseBounds s at ≡ true → byteAt s (at + 3) ≤ 1
 unfolding nodeGood
@@ -30,9 +30,9 @@ opposite : (x : ℕ) → x ≤ 1 → eqb x 0 ≡ not (eqb x 1)
 opposite x h =
     ⊎-elim
     (λ (e : x ≡ 1). rw (eq-eqb x 1 e, ne-eqb x 0 (λ z. omega (arith, e, z))))
-    (λ (l : x < 1). rw (ne-eqb x 1 (λ z. omega (arith, l, z)), eq-eqb x 0 (omega (arith, l))))
+    (λ (v : x < 1). rw (ne-eqb x 1 (λ z. omega (arith, v, z)), eq-eqb x 0 (omega (arith, v))))
     (eq-or-lt-of-le h)
 
-pub in-use : (s : List ℕ) (net : Net) → readOf s ≡ Good net → (i : ℕ) → i < net .nodes → enabled s i ≡ not (nodeAt s (nodeOffset i) .disabled)
-unfolding readOf enabled nodeAt
-in-use s net h i l = opposite (byteAt s (nodeOffset i + 3)) (flag s (nodeOffset i) (accepts baseBounds s (net .nodes) (net .links) h .each-node i l))
+pub in-use : (s : List ℕ) (l : Layout) → readOf s ≡ Good l → (i : ℕ) → i < l .nodes → enabled s l i ≡ not (nodeOf s l i .disabled)
+unfolding readOf enabled nodeOf nodeAt
+in-use s l h i v = opposite (byteAt s (nodePlace l i + 3)) (flag s (nodePlace l i) (accepts baseBounds s l h .each-node i v))

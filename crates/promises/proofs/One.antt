@@ -11,5 +11,5 @@ pub one : {A : Type 0} {meaning x y : A} → x ≡ meaning → y ≡ meaning →
 one p q = p ∙ sym q
 
 -- Two answers that meet the contract of `solve`, each with the six buffers that it leaves, are equal, and so are the buffers.
-pub one-answer : (s : List ℕ) (l : Lent) (a b : Answer) (x y : Lent) → record { answer = a; lent = x } ≡ solveOf s l → record { answer = b; lent = y } ≡ solveOf s l → (a ≡ b) × (x ≡ y)
-one-answer s l a b x y p q = let e = one p q in (ap (λ (o : Solved). o .answer) e, ap (λ (o : Solved). o .lent) e)
+pub one-answer : (s : List ℕ) (v : Lent) (a b : Answer) (x y : Lent) → record { answer = a; lent = x } ≡ solveOf s v → record { answer = b; lent = y } ≡ solveOf s v → (a ≡ b) × (x ≡ y)
+one-answer s v a b x y p q = let e = one p q in (ap (λ (o : Solved). o .answer) e, ap (λ (o : Solved). o .lent) e)

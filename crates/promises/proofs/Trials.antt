@@ -11,37 +11,37 @@ use lib.Count.{trailingZeros}
 use Rattle.constants.specs.Constants as constant
 use Rattle.records.specs.Records.{optionsOf}
 use Rattle.records.specs.declared.records.Options.{Options}
-use Rattle.sheet.specs.declared.layout.Found.{Found}
-use Rattle.sheet.specs.declared.layout.Found.the-variants.{At, Nothing}
-use Rattle.sheet.specs.declared.reading.Net.{Net}
+use Rattle.found.specs.declared.Found.{Found}
+use Rattle.found.specs.declared.Found.the-variants.{At, Nothing}
+use Rattle.layout.specs.declared.places.Layout.{Layout}
 use Rattle.damping.specs.Damping.{dampedOf, relativeChange, convergedOf, InRange}
 use Rattle.damping.proofs.Bounded.{in-range}
 use Rattle.state.specs.State.{State, solvedHeads}
 use Rattle.wild.specs.Wild.{wildPlace}
-use Rattle.update.specs.Update.{step, updateOf}
+use Rattle.update.specs.Update.{basis, updateOf}
 use Rattle.update.specs.declared.Stats.{Stats}
-use Rattle.repair.specs.declared.Damping.{Damping}
-use Rattle.repair.specs.declared.Entry.{Entry}
-use Rattle.repair.specs.declared.Entry.the-variants.{Freed, Grounded, Singular, Wild, Stepped, Converged}
+use Rattle.damping.specs.declared.steps.Damping.{Damping}
+use Rattle.entries.specs.declared.Entry.{Entry}
+use Rattle.entries.specs.declared.Entry.the-variants.{Freed, Grounded, Singular, Wild, Stepped, Converged}
 use Rattle.trial.specs.Trial.{Outcome, repairOf, judged, verdict, stepOf}
 use Rattle.entries.specs.Entries.{dampingStart, goingOf}
 use Rattle.entries.specs.declared.Going.{Going}
 use Rattle.entries.specs.declared.Going.the-variants.{On, Over}
-use Rattle.runs.specs.Run.{after, runWith}
+use Rattle.runs.specs.Run.{thenRun, runWith}
 use Rattle.solver.specs.Solve.{trialsOf}
 use Rattle.promises.specs.Trials.{Point, point, trialAt, runAt, dampingAfter, next, afterTrials, startPoint, runIn, pointIn}
 use Rattle.promises.proofs.Never.{other}
 use Rattle.promises.proofs.Repairs.{ways}
 
-pub unmoved : (s : List ℕ) (n k : ℕ) (p : Point) → afterTrials s n k 0 p ≡ p
+pub unmoved : (s : List ℕ) (l : Layout) (p : Point) → afterTrials s l 0 p ≡ p
 unfolding afterTrials
-unmoved s n k p = refl
+unmoved s l p = refl
 
 -- the first trial, then i more
-pub shifted : (s : List ℕ) (n k i : ℕ) (p : Point) → afterTrials s n k (suc i) p ≡ afterTrials s n k i (next s n k p)
+pub shifted : (s : List ℕ) (l : Layout) (i : ℕ) (p : Point) → afterTrials s l (suc i) p ≡ afterTrials s l i (next s l p)
 unfolding afterTrials
-shifted s n k zero p = refl
-shifted s n k (suc i) p = rw (← shifted s n k i p)
+shifted s l zero p = refl
+shifted s l (suc i) p = rw (← shifted s l i p)
 
 -- where a run goes on, it goes on with the damping after the entry
 pub on-damping : (d d' : Damping) (e : Entry) → goingOf d e ≡ On d' → dampingAfter d e ≡ d'
@@ -55,38 +55,38 @@ on-damping d d' Converged h = other (cc)
 
 -- ---- each entry
 
-module _ (s : List ℕ) (n k : ℕ) where
+module _ (s : List ℕ) (l : Layout) where
   -- Demand 2: entry i of a run is that of a trial of the state after the first i trials, with the damping after them.
-  pub each-entry : (m i : ℕ) (p : Point) → i < length (runAt s n k m p .entries) → getD (runAt s n k m p .entries) i Converged ≡ trialAt s n k (afterTrials s n k i p) .entry
-  unfolding runWith after next
+  pub each-entry : (m i : ℕ) (p : Point) → i < length (runAt s l m p .entries) → getD (runAt s l m p .entries) i Converged ≡ trialAt s l (afterTrials s l i p) .entry
+  unfolding runWith thenRun next
   each-entry zero i p h = absurd (let y : ⊥ = omega arith in y)
-  each-entry (suc m) i p h = go (trialAt s n k p) refl (goingOf (p .damping) (trialAt s n k p .entry)) refl i (each-entry m) h
+  each-entry (suc m) i p h = go (trialAt s l p) refl (goingOf (p .damping) (trialAt s l p .entry)) refl i (each-entry m) h
     where
-      go : (o : Outcome) → trialAt s n k p ≡ o → (g : Going) → goingOf (p .damping) (o .entry) ≡ g → (i : ℕ)
-          → ((i : ℕ) (p : Point) → i < length (runAt s n k m p .entries) → getD (runAt s n k m p .entries) i Converged ≡ trialAt s n k (afterTrials s n k i p) .entry)
-          → i < length (after (o .entry) (o .state) g (runWith repairOf s n k m) .entries)
-          → getD (after (o .entry) (o .state) g (runWith repairOf s n k m) .entries) i Converged ≡ trialAt s n k (afterTrials s n k i p) .entry
-      go o q (On d') e zero ih h = rw (unmoved s n k p, q)
-      go o q (Over z) e zero ih h = rw (unmoved s n k p, q)
-      go o q (On d') e (suc i) ih h = rw (shifted s n k i p, q, on-damping (p .damping) d' (o .entry) e) (ih i (point d' (o .state)) (omega arith))
+      go : (o : Outcome) → trialAt s l p ≡ o → (g : Going) → goingOf (p .damping) (o .entry) ≡ g → (i : ℕ)
+          → ((i : ℕ) (p : Point) → i < length (runAt s l m p .entries) → getD (runAt s l m p .entries) i Converged ≡ trialAt s l (afterTrials s l i p) .entry)
+          → i < length (thenRun (o .entry) (o .state) g (runWith repairOf s l m) .entries)
+          → getD (thenRun (o .entry) (o .state) g (runWith repairOf s l m) .entries) i Converged ≡ trialAt s l (afterTrials s l i p) .entry
+      go o q (On d') e zero ih h = rw (unmoved s l p, q)
+      go o q (Over z) e zero ih h = rw (unmoved s l p, q)
+      go o q (On d') e (suc i) ih h = rw (shifted s l i p, q, on-damping (p .damping) d' (o .entry) e) (ih i (point d' (o .state)) (omega arith))
       go o q (Over z) e (suc i) ih h = absurd (let y : ⊥ = omega arith in y)
 
   -- The state after it is the one that this trial leaves.
-  pub each-state : (i : ℕ) (p : Point) → afterTrials s n k (suc i) p .state ≡ trialAt s n k (afterTrials s n k i p) .state
+  pub each-state : (i : ℕ) (p : Point) → afterTrials s l (suc i) p .state ≡ trialAt s l (afterTrials s l i p) .state
   unfolding afterTrials next
   each-state i p = refl
 
   -- The state that a run leaves is the one after all its entries.
-  pub last-state : (m : ℕ) (p : Point) → runAt s n k m p .state ≡ afterTrials s n k (length (runAt s n k m p .entries)) p .state
-  unfolding runWith after next
-  last-state zero p = rw (unmoved s n k p)
-  last-state (suc m) p = go (trialAt s n k p) refl (goingOf (p .damping) (trialAt s n k p .entry)) refl (last-state m)
+  pub last-state : (m : ℕ) (p : Point) → runAt s l m p .state ≡ afterTrials s l (length (runAt s l m p .entries)) p .state
+  unfolding runWith thenRun next
+  last-state zero p = rw (unmoved s l p)
+  last-state (suc m) p = go (trialAt s l p) refl (goingOf (p .damping) (trialAt s l p .entry)) refl (last-state m)
     where
-      go : (o : Outcome) → trialAt s n k p ≡ o → (g : Going) → goingOf (p .damping) (o .entry) ≡ g
-          → ((p : Point) → runAt s n k m p .state ≡ afterTrials s n k (length (runAt s n k m p .entries)) p .state)
-          → after (o .entry) (o .state) g (runWith repairOf s n k m) .state ≡ afterTrials s n k (length (after (o .entry) (o .state) g (runWith repairOf s n k m) .entries)) p .state
-      go o q (On d') e ih = rw (shifted s n k (length (runWith repairOf s n k m d' (o .state) .entries)) p, q, on-damping (p .damping) d' (o .entry) e) (ih (point d' (o .state)))
-      go o q (Over z) e ih = rw (shifted s n k 0 p, unmoved s n k (next s n k p), q)
+      go : (o : Outcome) → trialAt s l p ≡ o → (g : Going) → goingOf (p .damping) (o .entry) ≡ g
+          → ((p : Point) → runAt s l m p .state ≡ afterTrials s l (length (runAt s l m p .entries)) p .state)
+          → thenRun (o .entry) (o .state) g (runWith repairOf s l m) .state ≡ afterTrials s l (length (thenRun (o .entry) (o .state) g (runWith repairOf s l m) .entries)) p .state
+      go o q (On d') e ih = rw (shifted s l (length (runWith repairOf s l m d' (o .state) .entries)) p, q, on-damping (p .damping) d' (o .entry) e) (ih (point d' (o .state)))
+      go o q (Over z) e ih = rw (shifted s l 0 p, unmoved s l (next s l p), q)
 
 -- ---- the damping factor
 
@@ -110,47 +110,47 @@ unfolding verdict dampingAfter
 verdict-in (At p) o d m r = r
 verdict-in Nothing o d m r = judged-in o d m r
 
-module _ (s : List ℕ) (n k : ℕ) where
-  step-in : (d : Damping) (t : State) → InRange (d .factor) → (g y x : List Float) → InRange (dampingAfter d (stepOf s n k d t g y x .entry) .factor)
+module _ (s : List ℕ) (l : Layout) where
+  step-in : (d : Damping) (t : State) → InRange (d .factor) → (g y x : List Float) → InRange (dampingAfter d (stepOf s l d t g y x .entry) .factor)
   unfolding stepOf
   step-in d t r g y x =
-      let h = solvedHeads s x n (t .heads) in
-      let u = updateOf s n k (step h g y (d .factor)) (t .flows) (t .statuses) in
-      verdict-in (wildPlace n k h (u .flows)) (optionsOf s) d (u .stats) r
+      let h = solvedHeads s l x (l .nodes) (t .heads) in
+      let u = updateOf s l (basis h g y (d .factor)) (t .flows) (t .statuses) in
+      verdict-in (wildPlace (l .nodes) (l .links) h (u .flows)) (optionsOf s) d (u .stats) r
 
   -- A trial keeps the damping factor from 0.25 to 1.
-  pub kept-in-range : (p : Point) → InRange (p .damping .factor) → InRange (next s n k p .damping .factor)
+  pub kept-in-range : (p : Point) → InRange (p .damping .factor) → InRange (next s l p .damping .factor)
   unfolding next dampingAfter
   kept-in-range p r =
-      ways s n k (p .damping) (p .state) (λ o. InRange (dampingAfter (p .damping) (o .entry) .factor))
+      ways s l (p .damping) (p .state) (λ o. InRange (dampingAfter (p .damping) (o .entry) .factor))
       (λ j w. r) (λ v w. r) (λ v w. r) (step-in (p .damping) (p .state) r)
 
-  stays : (i : ℕ) (p : Point) → InRange (p .damping .factor) → InRange (afterTrials s n k i p .damping .factor)
+  stays : (i : ℕ) (p : Point) → InRange (p .damping .factor) → InRange (afterTrials s l i p .damping .factor)
   unfolding afterTrials
   stays zero p r = r
-  stays (suc i) p r = kept-in-range (afterTrials s n k i p) (stays i p r)
+  stays (suc i) p r = kept-in-range (afterTrials s l i p) (stays i p r)
 
 -- ---- a solve
 
 -- Of the solve of any sheet: the state that its run leaves is the one after all its entries,
-pub solve-last-state : (s : List ℕ) (net : Net) → runIn s net .state ≡ pointIn s net (length (runIn s net .entries)) .state
+pub solve-last-state : (s : List ℕ) (l : Layout) → runIn s l .state ≡ pointIn s l (length (runIn s l .entries)) .state
 unfolding runIn pointIn
-solve-last-state s net = last-state s (net .nodes) (net .links) (trialsOf s) (startPoint s net)
+solve-last-state s l = last-state s l (trialsOf s) (startPoint s l)
 
-module _ (s : List ℕ) (net : Net) (i : ℕ) where
+module _ (s : List ℕ) (l : Layout) (i : ℕ) where
   -- each entry is that of a trial of the state before it,
-  pub solve-each-entry : i < length (runIn s net .entries) → getD (runIn s net .entries) i Converged ≡ trialAt s (net .nodes) (net .links) (pointIn s net i) .entry
+  pub solve-each-entry : i < length (runIn s l .entries) → getD (runIn s l .entries) i Converged ≡ trialAt s l (pointIn s l i) .entry
   unfolding runIn pointIn
-  solve-each-entry h = each-entry s (net .nodes) (net .links) (trialsOf s) i (startPoint s net) h
+  solve-each-entry h = each-entry s l (trialsOf s) i (startPoint s l) h
 
   -- the state after it is the one that this trial leaves,
-  pub solve-each-state : pointIn s net (suc i) .state ≡ trialAt s (net .nodes) (net .links) (pointIn s net i) .state
+  pub solve-each-state : pointIn s l (suc i) .state ≡ trialAt s l (pointIn s l i) .state
   unfolding pointIn
-  solve-each-state = each-state s (net .nodes) (net .links) i (startPoint s net)
+  solve-each-state = each-state s l i (startPoint s l)
 
   -- and the damping factor stays from 0.25 to 1.
-  pub solve-in-range : T (le constant.quarter (pointIn s net i .damping .factor)) × T (le (pointIn s net i .damping .factor) constant.one)
+  pub solve-in-range : T (le constant.quarter (pointIn s l i .damping .factor)) × T (le (pointIn s l i .damping .factor) constant.one)
   unfolding pointIn startPoint
   solve-in-range =
-      let r = stays s (net .nodes) (net .links) i (startPoint s net) start-in in
+      let r = stays s l i (startPoint s l) start-in in
       (r .least, r .most)

@@ -7,20 +7,20 @@ use native.Mathlib.Omega.{arith}
 use lib.ListN.{length, getD}
 use lib.Seq.{getD-set-other}
 use lib.Ieee.{Float, nan, binary64, ofBits, add, sub}
-use Rattle.records.specs.Offsets.{linkOffset}
-use Rattle.records.specs.Records.{linkAt}
+use Rattle.layout.specs.declared.places.Layout.{Layout}
+use Rattle.links.specs.Links.{linkOf}
 use Rattle.records.specs.declared.records.Link.{Link}
 use Rattle.constants.specs.Constants.{smallValue}
 use Rattle.coefficient.specs.declared.Coefficients.{Coefficients}
 use Rattle.coefficient.specs.declared.NodeAddition.{NodeAddition}
 use Rattle.columns.specs.Columns.{cleared, addTo, takeFrom}
 use Rattle.columns.proofs.Laws.{cleared-at}
-use Rattle.nodes.specs.Fields.{enabled}
+use Rattle.nodes.specs.Nodes.{enabled}
 use Rattle.numbering.specs.Numbering.{rowAt}
 use Rattle.numbering.specs.declared.Row.{Row}
 use Rattle.numbering.specs.declared.Row.the-variants.{Unknown, Fixed}
 use Rattle.scatter.specs.Scatter.{onDiagonal, lower, offBetween, givenDiagonal, linkMatrix}
-use Rattle.assembly.specs.Assembly.{System, system, Columns, coefficientsAt, linkIn, linkOf, linksOf, groundOf, groundedOf, assembleOf}
+use Rattle.assembly.specs.Assembly.{System, system, View, coefficientsAt, linkPlaced, linkAdded, withLinks, groundOf, groundedOf, assembleOf}
 use Rattle.promises.specs.Unfilled.{OffDiagonal, Apart, Unfilled}
 
 module _ (p : ℕ) where
@@ -35,9 +35,9 @@ module _ (p : ℕ) where
   between-apart (Unknown u) Fixed x m a = refl
   between-apart Fixed v x m a = refl
 
-  either : (b : Bool) (l m : List Float) → getD l p nan ≡ getD m p nan → getD (cond b l m) p nan ≡ getD m p nan
-  either true l m h = h
-  either false l m h = refl
+  either : (b : Bool) (z m : List Float) → getD z p nan ≡ getD m p nan → getD (cond b z m) p nan ≡ getD m p nan
+  either true z m h = h
+  either false z m h = refl
 
   given-apart : (a : NodeAddition) (row : Row) (m : List Float) → OffDiagonal row p → getD (givenDiagonal a row m) p nan ≡ getD m p nan
   unfolding givenDiagonal
@@ -48,40 +48,40 @@ module _ (p : ℕ) where
   link-apart u v c m a =
       given-apart (c .downstream) v _ (a .end) ∙ given-apart (c .upstream) u _ (a .start) ∙ between-apart u v (c .conductance) _ a ∙ diagonal-apart v (c .conductance) _ (a .end) ∙ diagonal-apart u (c .conductance) m (a .start)
 
-  links-apart : (s : List ℕ) (n : ℕ) (c : Columns) (t : System) (k : ℕ)
-      → ((i : ℕ) → i < k → (enabled s (linkAt s (linkOffset n i) .start) && enabled s (linkAt s (linkOffset n i) .end)) ≡ true → Apart (rowAt s (linkAt s (linkOffset n i) .start)) (rowAt s (linkAt s (linkOffset n i) .end)) p)
-      → getD (linksOf s n c k t .matrix) p nan ≡ getD (t .matrix) p nan
-  unfolding linksOf linkOf linkIn
-  links-apart s n c t zero h = refl
-  links-apart s n c t (suc k) h =
-      go (linkAt s (linkOffset n k)) (h k (omega arith)) ∙ links-apart s n c t k (λ i l. h i (omega arith))
+  links-apart : (s : List ℕ) (l : Layout) (v : View) (t : System) (k : ℕ)
+      → ((i : ℕ) → i < k → (enabled s l (linkOf s l i .start) && enabled s l (linkOf s l i .end)) ≡ true → Apart (rowAt s l (linkOf s l i .start)) (rowAt s l (linkOf s l i .end)) p)
+      → getD (withLinks s l v k t .matrix) p nan ≡ getD (t .matrix) p nan
+  unfolding withLinks linkAdded linkPlaced
+  links-apart s l v t zero h = refl
+  links-apart s l v t (suc k) h =
+      go (linkOf s l k) (h k (omega arith)) ∙ links-apart s l v t k (λ i z. h i (omega arith))
     where
       was : System
-      was = linksOf s n c k t
+      was = withLinks s l v k t
 
-      go : (l : Link) → ((enabled s (l .start) && enabled s (l .end)) ≡ true → Apart (rowAt s (l .start)) (rowAt s (l .end)) p) → getD (linkOf s c l k was .matrix) p nan ≡ getD (was .matrix) p nan
-      go l a = on (enabled s (l .start) && enabled s (l .end)) refl
+      go : (z : Link) → ((enabled s l (z .start) && enabled s l (z .end)) ≡ true → Apart (rowAt s l (z .start)) (rowAt s l (z .end)) p) → getD (linkAdded s l v z k was .matrix) p nan ≡ getD (was .matrix) p nan
+      go z a = on (enabled s l (z .start) && enabled s l (z .end)) refl
         where
-          on : (b : Bool) → (enabled s (l .start) && enabled s (l .end)) ≡ b → getD (cond b (linkIn s c l (coefficientsAt s (c .flows) (c .statuses) (c .excess) l k) k was) was .matrix) p nan ≡ getD (was .matrix) p nan
-          on true e = link-apart (rowAt s (l .start)) (rowAt s (l .end)) (coefficientsAt s (c .flows) (c .statuses) (c .excess) l k) (was .matrix) (a e)
+          on : (b : Bool) → (enabled s l (z .start) && enabled s l (z .end)) ≡ b → getD (cond b (linkPlaced s l v z (coefficientsAt s l (v .flows) (v .statuses) (v .excess) z k) k was) was .matrix) p nan ≡ getD (was .matrix) p nan
+          on true e = link-apart (rowAt s l (z .start)) (rowAt s l (z .end)) (coefficientsAt s l (v .flows) (v .statuses) (v .excess) z k) (was .matrix) (a e)
           on false e = refl
 
-  grounded-apart : (s : List ℕ) (marks : List Bool) (m : List Float) (n : ℕ) → ((i : ℕ) → i < n → getD marks i false ≡ true → OffDiagonal (rowAt s i) p) → getD (groundedOf s marks n m) p nan ≡ getD m p nan
+  grounded-apart : (s : List ℕ) (l : Layout) (marks : List Bool) (m : List Float) (n : ℕ) → ((i : ℕ) → i < n → getD marks i false ≡ true → OffDiagonal (rowAt s l i) p) → getD (groundedOf s l marks n m) p nan ≡ getD m p nan
   unfolding groundedOf groundOf
-  grounded-apart s marks m zero h = refl
-  grounded-apart s marks m (suc n) h = on (getD marks n false) refl ∙ grounded-apart s marks m n (λ i l. h i (omega arith))
+  grounded-apart s l marks m zero h = refl
+  grounded-apart s l marks m (suc n) h = on (getD marks n false) refl ∙ grounded-apart s l marks m n (λ i z. h i (omega arith))
     where
       was : List Float
-      was = groundedOf s marks n m
+      was = groundedOf s l marks n m
 
-      on : (b : Bool) → getD marks n false ≡ b → getD (cond b (onDiagonal (rowAt s n) smallValue was) was) p nan ≡ getD was p nan
-      on true e = diagonal-apart (rowAt s n) smallValue was (h n (omega arith) e)
+      on : (b : Bool) → getD marks n false ≡ b → getD (cond b (onDiagonal (rowAt s l n) smallValue was) was) p nan ≡ getD was p nan
+      on true e = diagonal-apart (rowAt s l n) smallValue was (h n (omega arith) e)
       on false e = refl
 
 -- "entries that no link fills are +0.0", whatever was lent
-pub unfilled : (s : List ℕ) (n k : ℕ) (c : Columns) (demands : List Float) (marks : List Bool) (t : System) (p : ℕ)
-    → length (t .matrix) ≡ 4096 → p < 4096 → Unfilled s n k marks p → getD (assembleOf s n k c demands marks t .matrix) p nan ≡ ofBits binary64 0
+pub unfilled : (s : List ℕ) (l : Layout) (v : View) (demands : List Float) (marks : List Bool) (t : System) (p : ℕ)
+    → length (t .matrix) ≡ 4096 → p < 4096 → Unfilled s l marks p → getD (assembleOf s l v demands marks t .matrix) p nan ≡ ofBits binary64 0
 unfolding assembleOf
-unfilled s n k c demands marks t p long here a =
+unfilled s l v demands marks t p long here a =
     let w : System = system (cleared 4096 (t .matrix)) (cleared 64 (t .rhs)) (t .g) (t .y) in
-    grounded-apart p s marks (linksOf s n c k w .matrix) n (a .nodes) ∙ links-apart p s n c w k (a .links) ∙ cleared-at 4096 (t .matrix) (omega arith) p here
+    grounded-apart p s l marks (withLinks s l v (l .links) w .matrix) (l .nodes) (a .nodes) ∙ links-apart p s l v w (l .links) (a .links) ∙ cleared-at 4096 (t .matrix) (omega arith) p here

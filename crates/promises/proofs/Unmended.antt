@@ -6,22 +6,22 @@ use mathlib.Core.Bool.{Bool, true, false, cond}
 use native.Mathlib.Omega.{arith}
 use lib.ListN.{length, getD}
 use lib.Ieee.{Float}
-use Rattle.sheet.specs.declared.layout.Found.{Found}
-use Rattle.sheet.specs.declared.layout.Found.the-variants.{At, Nothing}
+use Rattle.found.specs.declared.Found.{Found}
+use Rattle.found.specs.declared.Found.the-variants.{At, Nothing}
 use Rattle.sheet.specs.Read.{readOf}
-use Rattle.sheet.specs.declared.reading.Net.{Net}
+use Rattle.layout.specs.declared.places.Layout.{Layout}
 use Rattle.sheet.specs.declared.reading.Reading.{Reading}
 use Rattle.sheet.specs.declared.reading.Reading.the-variants.{Good, Refused}
 use Rattle.linear.specs.Factorization.{factorOf}
 use Rattle.linear.specs.declared.factorization.Factored.{Factored}
 use Rattle.linear.specs.declared.factorization.Factored.the-variants.{Done, Stopped}
-use Rattle.numbering.specs.Numbering.{before, nodeNumbered}
+use Rattle.numbering.specs.Numbering.{nodeNumbered}
 use Rattle.assembly.specs.Assembly.{System}
 use Rattle.state.specs.State.{State}
 use Rattle.repair.specs.Repair.{ground, free, regulatorAt, repairAt}
-use Rattle.repair.specs.declared.Damping.{Damping}
-use Rattle.repair.specs.declared.Entry.{Entry}
-use Rattle.repair.specs.declared.Entry.the-variants.{Freed, Grounded, Singular, Wild, Stepped, Converged}
+use Rattle.damping.specs.declared.steps.Damping.{Damping}
+use Rattle.entries.specs.declared.Entry.{Entry}
+use Rattle.entries.specs.declared.Entry.the-variants.{Freed, Grounded, Singular, Wild, Stepped, Converged}
 use Rattle.trial.specs.Trial.{Outcome, outcome, repairOf, noRepair, factored, systemOf, trialWith}
 use Rattle.entries.specs.Entries.{dampingStart, goingOf, counted, tallied, none}
 use Rattle.entries.specs.declared.Ended.{Ended}
@@ -29,8 +29,8 @@ use Rattle.entries.specs.declared.Ended.the-variants.{Balanced, Failed, Strayed
 use Rattle.entries.specs.declared.Going.{Going}
 use Rattle.entries.specs.declared.Going.the-variants.{On, Over}
 use Rattle.entries.specs.declared.Tally.{Tally}
-use Rattle.runs.specs.Run.{after, runWith, finish}
-use Rattle.answers.specs.Answers.{Lent, shortOf, failedOf}
+use Rattle.runs.specs.Run.{thenRun, runWith, finish}
+use Rattle.answers.specs.Answers.{Lent, tooShort, failedOf}
 use Rattle.conclusion.specs.Conclusion.{unsolved, delivered, told}
 use Rattle.solver.specs.Solve.{trialsOf, startOf, runOf, solvedWith, afterShort, afterRead, solveWith, solveOf}
 use Rattle.promises.specs.Repairs.{stopNode, stopOf, mends}
@@ -41,31 +41,31 @@ use Rattle.promises.proofs.Counts.{counts}
 
 -- ---- one trial
 
-module _ (s : List ℕ) (n k : ℕ) (t : State) (v : ℕ) where
-  marked-same : (b : Bool) → getD (t .grounded) v false ≡ b → regulatorAt s n k (t .statuses) v ≡ Nothing → mends (repairOf s n k t v .entry) ≡ false → repairOf s n k t v ≡ noRepair s n k t v
+module _ (s : List ℕ) (l : Layout) (t : State) (v : ℕ) where
+  marked-same : (b : Bool) → getD (t .grounded) v false ≡ b → regulatorAt s l (t .statuses) v ≡ Nothing → mends (repairOf s l t v .entry) ≡ false → repairOf s l t v ≡ noRepair s l t v
   unfolding repairOf repairAt free ground noRepair mends
   marked-same true g r = rw (r, g) (λ e. refl)
   marked-same false g r = rw (r, g) (λ e. never (sym e))
 
-  found-same : (f : Found) → regulatorAt s n k (t .statuses) v ≡ f → mends (repairOf s n k t v .entry) ≡ false → repairOf s n k t v ≡ noRepair s n k t v
+  found-same : (f : Found) → regulatorAt s l (t .statuses) v ≡ f → mends (repairOf s l t v .entry) ≡ false → repairOf s l t v ≡ noRepair s l t v
   unfolding repairOf repairAt free mends
   found-same (At j) r = rw r (λ e. never (sym e))
   found-same Nothing r = marked-same (getD (t .grounded) v false) refl r
 
-  repair-same : mends (repairOf s n k t v .entry) ≡ false → repairOf s n k t v ≡ noRepair s n k t v
-  repair-same = found-same (regulatorAt s n k (t .statuses) v) refl
+  repair-same : mends (repairOf s l t v .entry) ≡ false → repairOf s l t v ≡ noRepair s l t v
+  repair-same = found-same (regulatorAt s l (t .statuses) v) refl
 
-module _ (s : List ℕ) (n k : ℕ) (d : Damping) (t : State) where
-  factored-same : (a : System) (l : List Float) (f : Factored) → mends (factored repairOf s n k d t a l f .entry) ≡ false → factored repairOf s n k d t a l f ≡ factored noRepair s n k d t a l f
+module _ (s : List ℕ) (l : Layout) (d : Damping) (t : State) where
+  factored-same : (a : System) (w : List Float) (f : Factored) → mends (factored repairOf s l d t a w f .entry) ≡ false → factored repairOf s l d t a w f ≡ factored noRepair s l d t a w f
   unfolding factored
-  factored-same a l (Stopped u) e = repair-same s n k t (nodeNumbered s n (u .0)) e
-  factored-same a l Done e = refl
+  factored-same a w (Stopped u) e = repair-same s l t (nodeNumbered s l (l .nodes) (u .0)) e
+  factored-same a w Done e = refl
 
-  trial-same : mends (trialWith repairOf s n k d t .entry) ≡ false → trialWith repairOf s n k d t ≡ trialWith noRepair s n k d t
+  trial-same : mends (trialWith repairOf s l d t .entry) ≡ false → trialWith repairOf s l d t ≡ trialWith noRepair s l d t
   unfolding trialWith
   trial-same e =
-      let a = systemOf s n k t in
-      factored-same a (factorOf (before s n) (a .matrix) .matrix) (factorOf (before s n) (a .matrix) .answer) e
+      let a = systemOf s l t in
+      factored-same a (factorOf (l .unknowns) (a .matrix) .matrix) (factorOf (l .unknowns) (a .matrix) .answer) e
 
 -- ---- a run
 
@@ -81,19 +81,19 @@ first-unmended e es h = go (mends e) refl h
     go true p h = never h
     go false p h = (p, h)
 
-run-same : (s : List ℕ) (n k m : ℕ) (d : Damping) (t : State) → unmended (runWith repairOf s n k m d t .entries) ≡ true → runWith repairOf s n k m d t ≡ runWith noRepair s n k m d t
-unfolding runWith after
-run-same s n k zero d t h = refl
-run-same s n k (suc m) d t h =
-    go (trialWith repairOf s n k d t) (trialWith noRepair s n k d t) (goingOf d (trialWith repairOf s n k d t .entry)) refl (run-same s n k m) (trial-same s n k d t) h
+run-same : (s : List ℕ) (l : Layout) (m : ℕ) (d : Damping) (t : State) → unmended (runWith repairOf s l m d t .entries) ≡ true → runWith repairOf s l m d t ≡ runWith noRepair s l m d t
+unfolding runWith thenRun
+run-same s l zero d t h = refl
+run-same s l (suc m) d t h =
+    go (trialWith repairOf s l d t) (trialWith noRepair s l d t) (goingOf d (trialWith repairOf s l d t .entry)) refl (run-same s l m) (trial-same s l d t) h
   where
     go : (o o' : Outcome) (g : Going) → goingOf d (o .entry) ≡ g
-        → ((d : Damping) (t : State) → unmended (runWith repairOf s n k m d t .entries) ≡ true → runWith repairOf s n k m d t ≡ runWith noRepair s n k m d t)
+        → ((d : Damping) (t : State) → unmended (runWith repairOf s l m d t .entries) ≡ true → runWith repairOf s l m d t ≡ runWith noRepair s l m d t)
         → (mends (o .entry) ≡ false → o ≡ o')
-        → unmended (after (o .entry) (o .state) g (runWith repairOf s n k m) .entries) ≡ true
-        → after (o .entry) (o .state) g (runWith repairOf s n k m) ≡ after (o' .entry) (o' .state) (goingOf d (o' .entry)) (runWith noRepair s n k m)
+        → unmended (thenRun (o .entry) (o .state) g (runWith repairOf s l m) .entries) ≡ true
+        → thenRun (o .entry) (o .state) g (runWith repairOf s l m) ≡ thenRun (o' .entry) (o' .state) (goingOf d (o' .entry)) (runWith noRepair s l m)
     go o o' (On d') e ih same h =
-        let f = first-unmended (o .entry) (runWith repairOf s n k m d' (o .state) .entries) h in
+        let f = first-unmended (o .entry) (runWith repairOf s l m d' (o .state) .entries) h in
         rw (← same (f .0), e, ih d' (o .state) (f .1))
     go o o' (Over z) e ih same h =
         let f = first-unmended (o .entry) [] h in
@@ -134,66 +134,66 @@ tally-unmended t (Converged ∷ es) f g = tally-unmended (counted t Converged) e
 
 -- ---- the whole solve
 
-module _ (s : List ℕ) (net : Net) (m : ℕ) (l : Lent) (t : State) (tally : Tally) (bytes : List ℕ) where
-  told-freed : (z : Ended) → told s net m l t tally bytes z .answer .freed ≡ tally .freed
+module _ (s : List ℕ) (l : Layout) (m : ℕ) (w : Lent) (t : State) (tally : Tally) (bytes : List ℕ) where
+  told-freed : (z : Ended) → told s l m w t tally bytes z .answer .freed ≡ tally .freed
   unfolding told delivered unsolved failedOf
   told-freed Balanced = refl
   told-freed (Failed n) = refl
   told-freed (Strayed p) = refl
   told-freed Limit = refl
 
-  told-grounded : (z : Ended) → told s net m l t tally bytes z .answer .grounded ≡ tally .grounded
+  told-grounded : (z : Ended) → told s l m w t tally bytes z .answer .grounded ≡ tally .grounded
   unfolding told delivered unsolved failedOf
   told-grounded Balanced = refl
   told-grounded (Failed n) = refl
   told-grounded (Strayed p) = refl
   told-grounded Limit = refl
 
-module _ (s : List ℕ) (l : Lent) where
-  solved-same : (net : Net) → solvedWith repairOf s net l .answer .freed ≡ 0 → solvedWith repairOf s net l .answer .grounded ≡ 0 → solvedWith repairOf s net l ≡ solvedWith noRepair s net l
+module _ (s : List ℕ) (w : Lent) where
+  solved-same : (l : Layout) → solvedWith repairOf s l w .answer .freed ≡ 0 → solvedWith repairOf s l w .answer .grounded ≡ 0 → solvedWith repairOf s l w ≡ solvedWith noRepair s l w
   unfolding solvedWith runOf finish
-  solved-same net f g =
-      let r = runOf repairOf s net (l .entries) in
-      let es = runWith repairOf s (net .nodes) (net .links) (trialsOf s) dampingStart (startOf s net) .entries in
-      let p = run-same s (net .nodes) (net .links) (trialsOf s) dampingStart (startOf s net)
+  solved-same l f g =
+      let r = runOf repairOf s l (w .entries) in
+      let es = runWith repairOf s l (trialsOf s) dampingStart (startOf s l) .entries in
+      let p = run-same s l (trialsOf s) dampingStart (startOf s l)
       (tally-unmended none es
-      (sym (told-freed s net (trialsOf s) l (r .state) (r .ran .tally) (r .bytes) (r .ran .ended)) ∙ f)
-      (sym (told-grounded s net (trialsOf s) l (r .state) (r .ran .tally) (r .bytes) (r .ran .ended)) ∙ g)) in
+      (sym (told-freed s l (trialsOf s) w (r .state) (r .ran .tally) (r .bytes) (r .ran .ended)) ∙ f)
+      (sym (told-grounded s l (trialsOf s) w (r .state) (r .ran .tally) (r .bytes) (r .ran .ended)) ∙ g)) in
       rw p
 
-  short-same : (net : Net) (f : Found) → afterShort repairOf s net l f .answer .freed ≡ 0 → afterShort repairOf s net l f .answer .grounded ≡ 0 → afterShort repairOf s net l f ≡ afterShort noRepair s net l f
+  short-same : (l : Layout) (f : Found) → afterShort repairOf s l w f .answer .freed ≡ 0 → afterShort repairOf s l w f .answer .grounded ≡ 0 → afterShort repairOf s l w f ≡ afterShort noRepair s l w f
   unfolding afterShort
-  short-same net (At p) f g = refl
-  short-same net Nothing f g = solved-same net f g
+  short-same l (At p) f g = refl
+  short-same l Nothing f g = solved-same l f g
 
-  read-same : (r : Reading) → afterRead repairOf s l r .answer .freed ≡ 0 → afterRead repairOf s l r .answer .grounded ≡ 0 → afterRead repairOf s l r ≡ afterRead noRepair s l r
+  read-same : (r : Reading) → afterRead repairOf s w r .answer .freed ≡ 0 → afterRead repairOf s w r .answer .grounded ≡ 0 → afterRead repairOf s w r ≡ afterRead noRepair s w r
   unfolding afterRead
   read-same (Refused r) f g = refl
-  read-same (Good net) f g =
-      short-same net (shortOf net (trialsOf s) (length (l .heads)) (length (l .demands)) (length (l .flows)) (length (l .statuses)) (length (l .entries)) (length (l .scratch))) f g
+  read-same (Good l) f g =
+      short-same l (tooShort l (trialsOf s) (length (w .heads)) (length (w .demands)) (length (w .flows)) (length (w .statuses)) (length (w .entries)) (length (w .scratch))) f g
 
   -- Demand 3: an answer that counts no freed valve and no grounded node is that of the solver that repairs nothing, with the same results and the same record.
-  pub unmended-is-bare : solveOf s l .answer .freed ≡ 0 → solveOf s l .answer .grounded ≡ 0 → solveOf s l ≡ solveWith noRepair s l
+  pub unmended-is-bare : solveOf s w .answer .freed ≡ 0 → solveOf s w .answer .grounded ≡ 0 → solveOf s w ≡ solveWith noRepair s w
   unfolding solveWith
   unmended-is-bare f g = read-same (readOf s) f g
 
   -- The same by the bytes of the record: no VF and no GN stands in it.
-  pub unmarked-is-bare : count (solveOf s l .answer .trials) (marked 86 70 (solveOf s l .lent .entries)) ≡ 0 → count (solveOf s l .answer .trials) (marked 71 78 (solveOf s l .lent .entries)) ≡ 0
-      → solveOf s l ≡ solveWith noRepair s l
-  unmarked-is-bare f g = unmended-is-bare (counts s l .freed ∙ f) (counts s l .grounded ∙ g)
+  pub unmarked-is-bare : count (solveOf s w .answer .trials) (marked 86 70 (solveOf s w .lent .entries)) ≡ 0 → count (solveOf s w .answer .trials) (marked 71 78 (solveOf s w .lent .entries)) ≡ 0
+      → solveOf s w ≡ solveWith noRepair s w
+  unmarked-is-bare f g = unmended-is-bare (counts s w .freed ∙ f) (counts s w .grounded ∙ g)
 
 -- ---- the solver that repairs nothing
 
-bare-stopped : (s : List ℕ) (n k : ℕ) (d : Damping) (t : State) (v : ℕ) (a : System) (l : List Float) (f : Factored) → stopNode s n f ≡ At v → factored noRepair s n k d t a l f ≡ outcome (Singular (record { 0 = v })) t
+bare-stopped : (s : List ℕ) (l : Layout) (d : Damping) (t : State) (v : ℕ) (a : System) (w : List Float) (f : Factored) → stopNode s l f ≡ At v → factored noRepair s l d t a w f ≡ outcome (Singular (record { 0 = v })) t
 unfolding factored noRepair stopNode
-bare-stopped s n k d t v a l (Stopped u) e = let p : nodeNumbered s n (u .0) ≡ v = cc in rw p
-bare-stopped s n k d t v a l Done e = other (cc)
+bare-stopped s l d t v a w (Stopped u) e = let p : nodeNumbered s l (l .nodes) (u .0) ≡ v = cc in rw p
+bare-stopped s l d t v a w Done e = other (cc)
 
 -- It stops at its first failed factorization: a run of it that comes to one has that entry and no more.
-pub bare-stops : (s : List ℕ) (n k m : ℕ) (d : Damping) (t : State) (v : ℕ) → stopOf s n k t ≡ At v
-    → runWith noRepair s n k (suc m) d t ≡ record { entries = Singular (record { 0 = v }) ∷ []; ended = Failed (record { 0 = v }); state = t }
-unfolding runWith after trialWith stopOf goingOf
-bare-stops s n k m d t v e =
-    let a = systemOf s n k t in
-    let p = bare-stopped s n k d t v a (factorOf (before s n) (a .matrix) .matrix) (factorOf (before s n) (a .matrix) .answer) e in
+pub bare-stops : (s : List ℕ) (l : Layout) (m : ℕ) (d : Damping) (t : State) (v : ℕ) → stopOf s l t ≡ At v
+    → runWith noRepair s l (suc m) d t ≡ record { entries = Singular (record { 0 = v }) ∷ []; ended = Failed (record { 0 = v }); state = t }
+unfolding runWith thenRun trialWith stopOf goingOf
+bare-stops s l m d t v e =
+    let a = systemOf s l t in
+    let p = bare-stopped s l d t v a (factorOf (l .unknowns) (a .matrix) .matrix) (factorOf (l .unknowns) (a .matrix) .answer) e in
     rw p

@@ -6,11 +6,11 @@ use lib.ListN.{length, getD}
 use Rattle.refusals.specs.Refusals.{numberOf, placeOf}
 use Rattle.refusals.specs.declared.refusals.Refusal.{Refusal}
 use Rattle.sheet.specs.Read.{readOf}
-use Rattle.sheet.specs.declared.layout.Found.the-variants.{At}
-use Rattle.sheet.specs.declared.reading.Net.{Net}
+use Rattle.found.specs.declared.Found.the-variants.{At}
+use Rattle.layout.specs.declared.places.Layout.{Layout}
 use Rattle.sheet.specs.declared.reading.Reading.the-variants.{Good, Refused}
-use Rattle.repair.specs.declared.Entry.{Entry}
-use Rattle.repair.specs.declared.Entry.the-variants.{Freed, Grounded, Singular, Wild, Stepped, Converged}
+use Rattle.entries.specs.declared.Entry.{Entry}
+use Rattle.entries.specs.declared.Entry.the-variants.{Freed, Grounded, Singular, Wild, Stepped, Converged}
 use Rattle.entries.specs.declared.Ended.{Ended}
 use Rattle.entries.specs.declared.Ended.the-variants.{Balanced, Failed, Strayed, Limit}
 use Rattle.runs.specs.Run.{Run}
@@ -33,10 +33,10 @@ endPlace trials (Strayed p) = p
 endPlace trials Limit = trials
 
 -- a number and a place have a cause: the sheet (1 to 4), a buffer that is too short (5), or how the run ended (0, 6, 7, 8)
-pub data Cause (s : List ℕ) (l : Lent) : ℕ → ℕ → Type 0 where
-  sheet : (r : Refusal) → readOf s ≡ Refused r → Cause s l (numberOf r) (placeOf r)
-  short : (net : Net) (place : ℕ) → readOf s ≡ Good net → shortIn s net l ≡ At place → Cause s l 5 place
-  ended : (net : Net) → Runs s l net → Cause s l (endNumber (runIn s net .ended)) (endPlace (trialsOf s) (runIn s net .ended))
+pub data Cause (s : List ℕ) (b : Lent) : ℕ → ℕ → Type 0 where
+  sheet : (r : Refusal) → readOf s ≡ Refused r → Cause s b (numberOf r) (placeOf r)
+  short : (l : Layout) (place : ℕ) → readOf s ≡ Good l → shortIn s l b ≡ At place → Cause s b 5 place
+  ended : (l : Layout) → Runs s b l → Cause s b (endNumber (runIn s l .ended)) (endPlace (trialsOf s) (runIn s l .ended))
 
 -- how a run ends whose last entry this is
 unfoldable pub endBy : Entry → Ended
@@ -55,8 +55,8 @@ pub record EndsBy (m : ℕ) (r : Run) : Type 0 where
   pub limit : r .ended ≡ Limit → length (r .entries) ≡ m
 
 -- the last entry of the run of a sheet, and where the run stands before it
-unfoldable pub lastIn : List ℕ → Net → Entry
-lastIn s net = getD (runIn s net .entries) (length (runIn s net .entries) - 1) Converged
+unfoldable pub lastIn : List ℕ → Layout → Entry
+lastIn s l = getD (runIn s l .entries) (length (runIn s l .entries) - 1) Converged
 
-unfoldable pub beforeLast : List ℕ → Net → Point
-beforeLast s net = pointIn s net (length (runIn s net .entries) - 1)
+unfoldable pub beforeLast : List ℕ → Layout → Point
+beforeLast s l = pointIn s l (length (runIn s l .entries) - 1)

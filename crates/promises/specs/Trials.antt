@@ -1,11 +1,11 @@
 -- Where a run of trials stands after its first i trials. Definitions only.
 use Prim.Native.Nat.{ℕ, zero, suc}
 use mathlib.Core.List.{List}
-use Rattle.sheet.specs.declared.reading.Net.{Net}
+use Rattle.layout.specs.declared.places.Layout.{Layout}
 use Rattle.state.specs.State.{State}
-use Rattle.repair.specs.declared.Damping.{Damping}
-use Rattle.repair.specs.declared.Entry.{Entry}
-use Rattle.repair.specs.declared.Entry.the-variants.{Freed, Grounded, Singular, Wild, Stepped, Converged}
+use Rattle.damping.specs.declared.steps.Damping.{Damping}
+use Rattle.entries.specs.declared.Entry.{Entry}
+use Rattle.entries.specs.declared.Entry.the-variants.{Freed, Grounded, Singular, Wild, Stepped, Converged}
 use Rattle.trial.specs.Trial.{Outcome, repairOf, trialOf}
 use Rattle.entries.specs.Entries.{dampingStart}
 use Rattle.runs.specs.Run.{Run, runWith}
@@ -20,11 +20,11 @@ abbrev pub point : Damping → State → Point
 point d t = record { damping = d; state = t }
 
 -- a trial, and a run of at most m trials, from a point
-abbrev pub trialAt : List ℕ → ℕ → ℕ → Point → Outcome
-trialAt s n k p = trialOf s n k (p .damping) (p .state)
+abbrev pub trialAt : List ℕ → Layout → Point → Outcome
+trialAt s l p = trialOf s l (p .damping) (p .state)
 
-abbrev pub runAt : List ℕ → ℕ → ℕ → ℕ → Point → Run
-runAt s n k m p = runWith repairOf s n k m (p .damping) (p .state)
+abbrev pub runAt : List ℕ → Layout → ℕ → Point → Run
+runAt s l m p = runWith repairOf s l m (p .damping) (p .state)
 
 -- the damping after an entry: a step gives the next one, whatever else keeps it
 unfoldable pub dampingAfter : Damping → Entry → Damping
@@ -36,24 +36,24 @@ dampingAfter d (Stepped next) = next
 dampingAfter d Converged = d
 
 -- one trial on
-unfoldable pub next : List ℕ → ℕ → ℕ → Point → Point
+unfoldable pub next : List ℕ → Layout → Point → Point
 unfolding dampingAfter
-next s n k p = point (dampingAfter (p .damping) (trialAt s n k p .entry)) (trialAt s n k p .state)
+next s l p = point (dampingAfter (p .damping) (trialAt s l p .entry)) (trialAt s l p .state)
 
 -- i trials on
-unfoldable pub afterTrials : List ℕ → ℕ → ℕ → ℕ → Point → Point
+unfoldable pub afterTrials : List ℕ → Layout → ℕ → Point → Point
 unfolding next
-afterTrials s n k zero p = p
-afterTrials s n k (suc i) p = next s n k (afterTrials s n k i p)
+afterTrials s l zero p = p
+afterTrials s l (suc i) p = next s l (afterTrials s l i p)
 
 -- of the solve of a sheet: where it starts, its run, and where that stands after i trials
-unfoldable pub startPoint : List ℕ → Net → Point
-startPoint s net = point dampingStart (startOf s net)
+unfoldable pub startPoint : List ℕ → Layout → Point
+startPoint s l = point dampingStart (startOf s l)
 
-unfoldable pub runIn : List ℕ → Net → Run
+unfoldable pub runIn : List ℕ → Layout → Run
 unfolding startPoint
-runIn s net = runAt s (net .nodes) (net .links) (trialsOf s) (startPoint s net)
+runIn s l = runAt s l (trialsOf s) (startPoint s l)
 
-unfoldable pub pointIn : List ℕ → Net → ℕ → Point
+unfoldable pub pointIn : List ℕ → Layout → ℕ → Point
 unfolding startPoint afterTrials
-pointIn s net i = afterTrials s (net .nodes) (net .links) i (startPoint s net)
+pointIn s l i = afterTrials s l i (startPoint s l)

@@ -4,11 +4,10 @@ use mathlib.Core.Path.{_≡_}
 use mathlib.Core.Bool.{Bool, true, false, _&&_}
 use mathlib.Core.List.{List}
 use lib.ListN.{getD}
-use Rattle.records.specs.Offsets.{linkOffset}
-use Rattle.records.specs.Records.{linkAt}
-use Rattle.records.specs.declared.records.Link.{Link}
+use Rattle.layout.specs.declared.places.Layout.{Layout}
+use Rattle.links.specs.Links.{linkOf}
 use Rattle.linear.specs.declared.factorization.UnknownIndex.{UnknownIndex}
-use Rattle.nodes.specs.Fields.{enabled}
+use Rattle.nodes.specs.Nodes.{enabled}
 use Rattle.numbering.specs.Numbering.{rowAt}
 use Rattle.numbering.specs.declared.Row.{Row}
 use Rattle.numbering.specs.declared.Row.the-variants.{Unknown}
@@ -24,8 +23,8 @@ pub record Apart (u v : Row) (p : ℕ) : Type 0 where
   pub end : OffDiagonal v p
   pub between : (i j : UnknownIndex) → u ≡ Unknown i → v ≡ Unknown j → p ≡ lower (i .0) (j .0) → ⊥
 
--- no link in service, of k behind n nodes, has entry p among its places, and no node grounded has it as its diagonal
-pub record Unfilled (s : List ℕ) (n k : ℕ) (marks : List Bool) (p : ℕ) : Type 0 where
-  pub links : (i : ℕ) → i < k → (enabled s (linkAt s (linkOffset n i) .start) && enabled s (linkAt s (linkOffset n i) .end)) ≡ true
-      → Apart (rowAt s (linkAt s (linkOffset n i) .start)) (rowAt s (linkAt s (linkOffset n i) .end)) p
-  pub nodes : (i : ℕ) → i < n → getD marks i false ≡ true → OffDiagonal (rowAt s i) p
+-- no link in service has entry p among its places, and no node grounded has it as its diagonal
+pub record Unfilled (s : List ℕ) (l : Layout) (marks : List Bool) (p : ℕ) : Type 0 where
+  pub links : (i : ℕ) → i < l .links → (enabled s l (linkOf s l i .start) && enabled s l (linkOf s l i .end)) ≡ true
+      → Apart (rowAt s l (linkOf s l i .start)) (rowAt s l (linkOf s l i .end)) p
+  pub nodes : (i : ℕ) → i < l .nodes → getD marks i false ≡ true → OffDiagonal (rowAt s l i) p

@@ -6,7 +6,7 @@ use lib.Dec.{eqb}
 use lib.Ieee.{Float}
 use Rattle.patterns.specs.Bytes.{fromBytes}
 use Rattle.codes.specs.Codes.{nodeKindOf, linkKindOf, statusOf}
-use Rattle.records.specs.Records.{byteAt, shortAt, optionsOf, nodeAt, linkAt}
+use Rattle.records.specs.Records.{byteAt, pairAt, optionsOf, nodeAt, linkAt}
 use Rattle.codes.specs.declared.NodeKind.{NodeKind}
 use Rattle.codes.specs.declared.LinkKind.{LinkKind}
 use Rattle.codes.specs.declared.Status.{Status}
@@ -15,7 +15,7 @@ use Rattle.records.specs.declared.records.Node.{Node}
 use Rattle.records.specs.declared.records.Link.{Link}
 
 module _ (s : List ℕ) where
-  pub options : (x y z : Float) (t : ℕ) → x ≡ fromBytes s 2 → y ≡ fromBytes s 10 → z ≡ fromBytes s 18 → t ≡ shortAt s 26 → _≡_ {A = Options} (record { accuracy = x; damping = y; change = z; trials = t; unit = byteAt s 28 }) (optionsOf s)
+  pub options : (x y z : Float) (t : ℕ) → x ≡ fromBytes s 2 → y ≡ fromBytes s 10 → z ≡ fromBytes s 18 → t ≡ pairAt s 26 → _≡_ {A = Options} (record { accuracy = x; damping = y; change = z; trials = t; unit = byteAt s 28 }) (optionsOf s)
   unfolding optionsOf
   options x y z t a b c d = rw (a, b, c, d)
 
@@ -23,6 +23,6 @@ module _ (s : List ℕ) where
   unfolding nodeAt
   node at k v w x y z a b c d e f = rw (a, b, c, d, e, f)
 
-  pub link : (at : ℕ) (k : LinkKind) (t : Status) (m n : ℕ) (v w x y z : Float) → k ≡ linkKindOf (byteAt s (at + 2)) → t ≡ statusOf (byteAt s (at + 4)) → m ≡ shortAt s (at + 5) → n ≡ shortAt s (at + 7) → v ≡ fromBytes s (at + 9) → w ≡ fromBytes s (at + 17) → x ≡ fromBytes s (at + 25) → y ≡ fromBytes s (at + 33) → z ≡ fromBytes s (at + 41) → _≡_ {A = Link} (record { kind = k; check = eqb (byteAt s (at + 3)) 1; status = t; start = m; end = n; setting = v; minor = w; diameter = x; resistance = y; flow = z }) (linkAt s at)
+  pub link : (at : ℕ) (k : LinkKind) (t : Status) (m n : ℕ) (v w x y z : Float) → k ≡ linkKindOf (byteAt s (at + 2)) → t ≡ statusOf (byteAt s (at + 4)) → m ≡ pairAt s (at + 5) → n ≡ pairAt s (at + 7) → v ≡ fromBytes s (at + 9) → w ≡ fromBytes s (at + 17) → x ≡ fromBytes s (at + 25) → y ≡ fromBytes s (at + 33) → z ≡ fromBytes s (at + 41) → _≡_ {A = Link} (record { kind = k; check = eqb (byteAt s (at + 3)) 1; status = t; start = m; end = n; setting = v; minor = w; diameter = x; resistance = y; flow = z }) (linkAt s at)
   unfolding linkAt
   link at k t m n v w x y z a b c d e f g h i = rw (a, b, c, d, e, f, g, h, i)

@@ -13,13 +13,13 @@ use Rattle.records.specs.declared.records.Link.{Link}
 abbrev pub byteAt : List ℕ → ℕ → ℕ
 byteAt s at = getD s at 0
 
-unfoldable pub shortAt : List ℕ → ℕ → ℕ
-shortAt s at = littleEndian 2 s at
+unfoldable pub pairAt : List ℕ → ℕ → ℕ
+pairAt s at = littleEndian 2 s at
 
 unfoldable pub optionsOf : List ℕ → Options
-unfolding shortAt
+unfolding pairAt
 optionsOf s =
-    record { accuracy = fromBytes s 2; damping = fromBytes s 10; change = fromBytes s 18; trials = shortAt s 26; unit = byteAt s 28 }
+    record { accuracy = fromBytes s 2; damping = fromBytes s 10; change = fromBytes s 18; trials = pairAt s 26; unit = byteAt s 28 }
 
 unfoldable pub nodeAt : List ℕ → ℕ → Node
 nodeAt s at =
@@ -35,14 +35,14 @@ nodeAt s at =
     }
 
 unfoldable pub linkAt : List ℕ → ℕ → Link
-unfolding shortAt
+unfolding pairAt
 linkAt s at =
     record {
       kind = linkKindOf (byteAt s (at + 2));
       check = eqb (byteAt s (at + 3)) 1;
       status = statusOf (byteAt s (at + 4));
-      start = shortAt s (at + 5);
-      end = shortAt s (at + 7);
+      start = pairAt s (at + 5);
+      end = pairAt s (at + 7);
       setting = fromBytes s (at + 9);
       minor = fromBytes s (at + 17);
       diameter = fromBytes s (at + 25);

@@ -1,4 +1,4 @@
-// The records of the network sheet by value, and their codes. Where they stand, from crate offsets.
+// The records of the network sheet by value, and their codes.
 mod records;
 
 pub use codes::LinkKind;
@@ -7,15 +7,10 @@ pub use codes::Status;
 pub use codes::link_kind;
 pub use codes::status_code;
 pub use codes::status_of;
-pub use offsets::LK_SIZE;
-pub use offsets::ND_SIZE;
-pub use offsets::OP_SIZE;
-pub use offsets::link_offset;
-pub use offsets::node_offset;
 pub use records::Link;
 pub use records::Node;
 pub use records::Options;
 pub use records::link_at;
 pub use records::node_at;
 pub use records::options_of;
-pub use records::short;
+pub use records::pair_at;

@@ -2,7 +2,7 @@
 ghost use mathlib.Core.Path.{_≡_};
 ghost use Prim.Native.Nat.{_+_, _≤_};
 ghost use lib.ListN.{length};
-ghost use Rattle.records.specs.Records.{optionsOf, nodeAt, linkAt, shortAt};
+ghost use Rattle.records.specs.Records.{optionsOf, nodeAt, linkAt, pairAt};
 use codes::LinkKind;
 use codes::NodeKind;
 use codes::Status;
@@ -48,9 +48,9 @@ pub struct Link {
 }
 
 // The number of the two bytes from `at` on, the lower one first.
-pub fn short(s: &[u8], at: usize) -> usize
+pub fn pair_at(s: &[u8], at: usize) -> usize
     requires { ⌜ at + 2 ≤ length (now s) ⌝ }
-    ensures { λ r. ⌜ r ≡ shortAt (now (s .entry)) at ⌝ }
+    ensures { λ r. ⌜ r ≡ pairAt (now (s .entry)) at ⌝ }
 {
     two_bytes(s, at) as usize
 }
@@ -63,7 +63,7 @@ pub fn options_of(sheet: &[u8]) -> Options
         accuracy: from_bytes(sheet, 2),
         damping: from_bytes(sheet, 10),
         change: from_bytes(sheet, 18),
-        trials: short(sheet, 26),
+        trials: pair_at(sheet, 26),
         unit: sheet[28] as usize,
     }
 }
@@ -92,8 +92,8 @@ pub fn link_at(sheet: &[u8], at: usize) -> Link
         kind: link_kind(sheet[at + 2]),
         check: sheet[at + 3] == 1,
         status: status_of(sheet[at + 4]),
-        start: short(sheet, at + 5),
-        end: short(sheet, at + 7),
+        start: pair_at(sheet, at + 5),
+        end: pair_at(sheet, at + 7),
         setting: from_bytes(sheet, at + 9),
         minor: from_bytes(sheet, at + 17),
         diameter: from_bytes(sheet, at + 25),

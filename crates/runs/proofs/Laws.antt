@@ -7,9 +7,10 @@ use native.Mathlib.Omega.{arith}
 use native.Mathlib.Numerals.{add-one}
 use lib.ListN.{length}
 use lib.Ieee.{Float}
-use Rattle.repair.specs.declared.Damping.{Damping}
-use Rattle.repair.specs.declared.Entry.{Entry}
-use Rattle.repair.specs.declared.Entry.the-variants.{Freed, Grounded, Singular, Wild, Stepped, Converged}
+use Rattle.damping.specs.declared.steps.Damping.{Damping}
+use Rattle.entries.specs.declared.Entry.{Entry}
+use Rattle.entries.specs.declared.Entry.the-variants.{Freed, Grounded, Singular, Wild, Stepped, Converged}
+use Rattle.layout.specs.declared.places.Layout.{Layout}
 use Rattle.state.specs.State.{State}
 use Rattle.trial.specs.Trial.{Room, Outcome, outcome, Repair, trialWith}
 use Rattle.entries.specs.Entries.{goingOf, counted, tallied}
@@ -20,7 +21,7 @@ use Rattle.entries.specs.declared.Going.{Going}
 use Rattle.entries.specs.declared.Going.the-variants.{On, Over}
 use Rattle.marks.specs.declared.Mark.{Mark}
 use Rattle.entries.specs.declared.Tally.{Tally}
-use Rattle.runs.specs.Run.{after, runWith, finish}
+use Rattle.runs.specs.Run.{thenRun, runWith, finish}
 
 -- every lent slice has the length that it came with
 pub record Kept (t₀ t : State) (r₀ r : List ℕ) (x₀ x : List Float) : Type 0 where
@@ -35,8 +36,8 @@ pub record Kept (t₀ t : State) (r₀ r : List ℕ) (x₀ x : List Float) : Typ
 pub kept-start : (t : State) (r : List ℕ) (x : List Float) → Kept t t r r x x
 kept-start t r x = record { heads = refl; demands = refl; flows = refl; statuses = refl; grounded = refl; entries = refl; scratch = refl }
 
-pub kept-room : (n k : ℕ) (t₀ t : State) (r₀ r : List ℕ) (x₀ x : List Float) → Kept t₀ t r₀ r x₀ x → Room n k t₀ → Room n k t
-kept-room n k t₀ t r₀ r x₀ x c m = record { heads = omega arith; demands = omega arith; flows = omega arith; statuses = omega arith; grounded = omega arith }
+pub kept-room : (l : Layout) (t₀ t : State) (r₀ r : List ℕ) (x₀ x : List Float) → Kept t₀ t r₀ r x₀ x → Room l t₀ → Room l t
+kept-room l t₀ t r₀ r x₀ x c m = record { heads = omega arith; demands = omega arith; flows = omega arith; statuses = omega arith; grounded = omega arith }
 
 -- one more is counted
 pub record Counts (t u : Tally) : Type 0 where
@@ -60,36 +61,36 @@ tallied-trials t [] = omega arith
 tallied-trials t (e ∷ es) = omega (arith, tallied-trials (counted t e) es, counts t e .trials)
 
 -- a run has at most as many entries as it may take trials
-pub run-length : (repair : Repair) (s : List ℕ) (n k m : ℕ) (d : Damping) (t : State) → length (runWith repair s n k m d t .entries) ≤ m
-unfolding runWith after
-run-length repair s n k zero d t = omega arith
-run-length repair s n k (suc m) d t = go (trialWith repair s n k d t) (goingOf d (trialWith repair s n k d t .entry)) (run-length repair s n k m)
+pub run-length : (repair : Repair) (s : List ℕ) (l : Layout) (m : ℕ) (d : Damping) (t : State) → length (runWith repair s l m d t .entries) ≤ m
+unfolding runWith thenRun
+run-length repair s l zero d t = omega arith
+run-length repair s l (suc m) d t = go (trialWith repair s l d t) (goingOf d (trialWith repair s l d t .entry)) (run-length repair s l m)
   where
-    go : (o : Outcome) (g : Going) → ((d : Damping) (t : State) → length (runWith repair s n k m d t .entries) ≤ m)
-        → length (after (o .entry) (o .state) g (runWith repair s n k m) .entries) ≤ suc m
+    go : (o : Outcome) (g : Going) → ((d : Damping) (t : State) → length (runWith repair s l m d t .entries) ≤ m)
+        → length (thenRun (o .entry) (o .state) g (runWith repair s l m) .entries) ≤ suc m
     go o (On d') ih = let h = ih d' (o .state) in omega arith
     go o (Over z) ih = omega arith
 
 -- a trial after which the run goes on, one that ends it, and the limit
-module _ (repair : Repair) (s : List ℕ) (n k m i : ℕ) (d : Damping) (tally : Tally) (r : List ℕ) (t : State) where
+module _ (repair : Repair) (s : List ℕ) (l : Layout) (m i : ℕ) (d : Damping) (tally : Tally) (r : List ℕ) (t : State) where
   pub run-on : (e : Entry) (t' : State) (mark : Mark) (r' : List ℕ) (tally' : Tally) (g : Going) (d' : Damping) → i < m
-      → outcome e t' ≡ trialWith repair s n k d t → mark ≡ markOf e → r' ≡ putOf r i mark → tally' ≡ counted tally e → g ≡ goingOf d e → g ≡ On d'
-      → finish (i + 1) tally' r' (runWith repair s n k (m - (i + 1)) d' t') ≡ finish i tally r (runWith repair s n k (m - i) d t)
-  unfolding runWith after finish written tallied
+      → outcome e t' ≡ trialWith repair s l d t → mark ≡ markOf e → r' ≡ putOf r i mark → tally' ≡ counted tally e → g ≡ goingOf d e → g ≡ On d'
+      → finish (i + 1) tally' r' (runWith repair s l (m - (i + 1)) d' t') ≡ finish i tally r (runWith repair s l (m - i) d t)
+  unfolding runWith thenRun finish written tallied
   run-on e t' mark r' tally' g d' h o em er et eg on =
       let p : m - i ≡ suc (m - (i + 1)) = omega arith in
       rw (p, ← o, ← eg, on, er, em, et, add-one)
 
   pub run-over : (e : Entry) (t' : State) (mark : Mark) (r' : List ℕ) (tally' : Tally) (g : Going) (z : Ended) → i < m
-      → outcome e t' ≡ trialWith repair s n k d t → mark ≡ markOf e → r' ≡ putOf r i mark → tally' ≡ counted tally e → g ≡ goingOf d e → g ≡ Over z
-      → record { ran = record { ended = z; tally = tally' }; bytes = r'; state = t' } ≡ finish i tally r (runWith repair s n k (m - i) d t)
-  unfolding runWith after finish written tallied
+      → outcome e t' ≡ trialWith repair s l d t → mark ≡ markOf e → r' ≡ putOf r i mark → tally' ≡ counted tally e → g ≡ goingOf d e → g ≡ Over z
+      → record { ran = record { ended = z; tally = tally' }; bytes = r'; state = t' } ≡ finish i tally r (runWith repair s l (m - i) d t)
+  unfolding runWith thenRun finish written tallied
   run-over e t' mark r' tally' g z h o em er et eg over =
       let p : m - i ≡ suc (m - (i + 1)) = omega arith in
       rw (p, ← o, ← eg, over, er, em, et)
 
-  pub run-limit : m ≤ i → record { ran = record { ended = Limit; tally = tally }; bytes = r; state = t } ≡ finish i tally r (runWith repair s n k (m - i) d t)
-  unfolding runWith after finish written tallied
+  pub run-limit : m ≤ i → record { ran = record { ended = Limit; tally = tally }; bytes = r; state = t } ≡ finish i tally r (runWith repair s l (m - i) d t)
+  unfolding runWith thenRun finish written tallied
   run-limit h =
       let p : m - i ≡ 0 = omega arith in
       rw p

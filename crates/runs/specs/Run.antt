@@ -1,8 +1,9 @@
 -- A run of trials: its entries in order, how it ended, and the state that it left. Definitions only.
 use Prim.Native.Nat.{ℕ, zero, suc}
 use mathlib.Core.List.{List, [], _∷_}
-use Rattle.repair.specs.declared.Damping.{Damping}
-use Rattle.repair.specs.declared.Entry.{Entry}
+use Rattle.damping.specs.declared.steps.Damping.{Damping}
+use Rattle.entries.specs.declared.Entry.{Entry}
+use Rattle.layout.specs.declared.places.Layout.{Layout}
 use Rattle.state.specs.State.{State}
 use Rattle.trial.specs.Trial.{Outcome, Repair, trialWith}
 use Rattle.entries.specs.Entries.{goingOf, tallied}
@@ -20,17 +21,17 @@ pub record Run : Type 0 where
   pub state : State
 
 -- an entry, the state after it, and the trials that follow if there are any
-unfoldable pub after : Entry → State → Going → (Damping → State → Run) → Run
-after e t (On d) next = record { entries = e ∷ next d t .entries; ended = next d t .ended; state = next d t .state }
-after e t (Over z) next = record { entries = e ∷ []; ended = z; state = t }
+unfoldable pub thenRun : Entry → State → Going → (Damping → State → Run) → Run
+thenRun e t (On d) next = record { entries = e ∷ next d t .entries; ended = next d t .ended; state = next d t .state }
+thenRun e t (Over z) next = record { entries = e ∷ []; ended = z; state = t }
 
--- at most m trials, of n nodes and k links
-unfoldable pub runWith : Repair → List ℕ → ℕ → ℕ → ℕ → Damping → State → Run
-unfolding after
-runWith repair s n k zero d t = record { entries = []; ended = Limit; state = t }
-runWith repair s n k (suc m) d t =
-    let o = trialWith repair s n k d t in
-    after (o .entry) (o .state) (goingOf d (o .entry)) (runWith repair s n k m)
+-- at most m trials
+unfoldable pub runWith : Repair → List ℕ → Layout → ℕ → Damping → State → Run
+unfolding thenRun
+runWith repair s l zero d t = record { entries = []; ended = Limit; state = t }
+runWith repair s l (suc m) d t =
+    let o = trialWith repair s l d t in
+    thenRun (o .entry) (o .state) (goingOf d (o .entry)) (runWith repair s l m)
 
 -- how a run ended with its tally, the record's bytes and the state
 pub record Finished : Type 0 where

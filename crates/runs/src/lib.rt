@@ -2,9 +2,9 @@
 ghost use mathlib.Core.Path.{_≡_};
 ghost use Prim.Native.Nat.{_*_, _≤_};
 ghost use lib.ListN.{length};
-ghost use Rattle.power.specs.Tables.{tableA, tableB};
+ghost use Rattle.power.specs.Tables.{powerTable};
 ghost use Rattle.columns.specs.Columns.{zeros};
-ghost use Rattle.numbering.specs.Numbering.{before, RowsRight, NodesRight};
+ghost use Rattle.numbering.specs.Numbering.{RowsRight};
 ghost use Rattle.state.specs.Network.{Network};
 ghost use Rattle.state.specs.State.{state};
 ghost use Rattle.trial.specs.Trial.{Room, repairOf};
@@ -16,6 +16,7 @@ use entries::Tally;
 use entries::count;
 use entries::damping_start;
 use entries::go;
+use layout::Layout;
 use marks::marked;
 use marks::put;
 
@@ -27,14 +28,10 @@ pub struct Ran {
 // Trials until one ends the run, or until there are no more; the scratch is all +0.0 at the end.
 pub fn run_trials(
     sheet: &[u8],
-    nodes: usize,
-    links: usize,
+    l: Layout,
     trials: usize,
     unknowns: &[usize],
-    back: &[usize],
-    unknown_count: usize,
-    a: &[u64; 1025],
-    b: &[u64; 128],
+    table: &[u64; 1153],
     heads: &mut [f64],
     demands: &mut [f64],
     flows: &mut [f64],
@@ -43,13 +40,12 @@ pub fn run_trials(
     entries: &mut [u8],
     scratch: &mut [f64],
 ) -> Ran
-    requires { ⌜ Network nodes links (now sheet) ⌝ }
-    requires { ⌜ («unknown_count» ≡ before (now sheet) nodes) × ((nodes ≤ length (now unknowns)) × (nodes ≤ length (now back))) ⌝ }
-    requires { ⌜ (RowsRight nodes (now sheet) (now unknowns)) × (NodesRight nodes (now sheet) (now back)) ⌝ }
-    requires { ⌜ (now a ≡ tableA) × (now b ≡ tableB) ⌝ }
-    requires { ⌜ Room nodes links (state (now heads) (now demands) (now flows) (now statuses) (now grounded)) ⌝ }
+    requires { ⌜ Network l (now sheet) ⌝ }
+    requires { ⌜ (l .nodes ≤ length (now unknowns)) × (RowsRight l (now sheet) (now unknowns)) ⌝ }
+    requires { ⌜ now table ≡ powerTable ⌝ }
+    requires { ⌜ Room l (state (now heads) (now demands) (now flows) (now statuses) (now grounded)) ⌝ }
     requires { ⌜ (trials ≤ 65535) × ((4 * trials ≤ length (now entries)) × (length (now scratch) ≡ 4096)) ⌝ }
-    ensures state { λ r. ⌜ record { ran = r; bytes = now (entries .exit); state = state (now (heads .exit)) (now (demands .exit)) (now (flows .exit)) (now (statuses .exit)) (now (grounded .exit)) } ≡ finish 0 none (now (entries .entry)) (runWith repairOf (now (sheet .entry)) nodes links trials dampingStart (state (now (heads .entry)) (now (demands .entry)) (now (flows .entry)) (now (statuses .entry)) (now (grounded .entry)))) ⌝ }
+    ensures state { λ r. ⌜ record { ran = r; bytes = now (entries .exit); state = state (now (heads .exit)) (now (demands .exit)) (now (flows .exit)) (now (statuses .exit)) (now (grounded .exit)) } ≡ finish 0 none (now (entries .entry)) (runWith repairOf (now (sheet .entry)) l trials dampingStart (state (now (heads .entry)) (now (demands .entry)) (now (flows .entry)) (now (statuses .entry)) (now (grounded .entry)))) ⌝ }
     ensures cleared { λ r. ⌜ now (scratch .exit) ≡ zeros 4096 ⌝ }
 {
     let mut d = damping_start();
@@ -62,13 +58,9 @@ pub fn run_trials(
     while i < trials {
         let e = trial::trial(
             sheet,
-            nodes,
-            links,
-            unknown_count,
+            l,
             unknowns,
-            back,
-            a,
-            b,
+            table,
             d,
             heads,
             demands,

@@ -8,10 +8,10 @@ use native.Mathlib.Omega.{arith}
 use lib.Dec.{T, eqb, leb}
 use lib.ListN.{length, getD}
 use borrow.Author.Tests.{le-leb, lt-leb, leb-true, not-true, not-false}
-use Rattle.sheet.specs.Layout.{readable, runOf}
+use Rattle.sheet.specs.Scan.{readable, recordsFrom}
 use Rattle.sheet.specs.Read.{firstBad}
-use Rattle.sheet.specs.declared.layout.Found.{Found}
-use Rattle.sheet.specs.declared.layout.Found.the-variants.{At, Nothing}
+use Rattle.found.specs.declared.Found.{Found}
+use Rattle.found.specs.declared.Found.the-variants.{At, Nothing}
 
 -- ---- a record's test
 
@@ -38,33 +38,33 @@ fits m n size s at h = leb-true (at + size) (length s) (and-left (leb (at + size
 -- ---- a run of records
 
 -- one more turn: k turns are left
-pub run-on : (m n size k : ℕ) (s : List ℕ) (at : ℕ) → readable m n size s at ≡ true → 0 < k → runOf m n size k s at ≡ suc (runOf m n size (k - 1) s (at + size))
-unfolding runOf
+pub run-on : (m n size k : ℕ) (s : List ℕ) (at : ℕ) → readable m n size s at ≡ true → 0 < k → recordsFrom m n size k s at ≡ suc (recordsFrom m n size (k - 1) s (at + size))
+unfolding recordsFrom
 run-on m n size zero s at h l = absurd (omega arith)
 run-on m n size (suc k) s at h l =
     let e : suc k - 1 ≡ k = omega arith in
     rw (h, e)
 
-pub run-end : (m n size k : ℕ) (s : List ℕ) (at : ℕ) → readable m n size s at ≡ false → runOf m n size k s at ≡ 0
-unfolding runOf
+pub run-end : (m n size k : ℕ) (s : List ℕ) (at : ℕ) → readable m n size s at ≡ false → recordsFrom m n size k s at ≡ 0
+unfolding recordsFrom
 run-end m n size zero s at h = refl
 run-end m n size (suc k) s at h = rw h
 
 -- a run stays within the sheet
-pub run-fits : (m n size k : ℕ) (s : List ℕ) (at : ℕ) → at ≤ length s → at + size * runOf m n size k s at ≤ length s
-unfolding runOf
+pub run-fits : (m n size k : ℕ) (s : List ℕ) (at : ℕ) → at ≤ length s → at + size * recordsFrom m n size k s at ≤ length s
+unfolding recordsFrom
 run-fits m n size zero s at h = omega (arith, mul-zero size)
 run-fits m n size (suc k) s at h = go (readable m n size s at) refl (λ l. run-fits m n size k s (at + size) l)
   where
-    go : (b : Bool) → readable m n size s at ≡ b → (at + size ≤ length s → at + size + size * runOf m n size k s (at + size) ≤ length s) → at + size * cond {A = ℕ} b (suc (runOf m n size k s (at + size))) 0 ≤ length s
-    go true e f = omega (arith, f (fits m n size s at e), mul-suc size (runOf m n size k s (at + size)))
+    go : (b : Bool) → readable m n size s at ≡ b → (at + size ≤ length s → at + size + size * recordsFrom m n size k s (at + size) ≤ length s) → at + size * cond {A = ℕ} b (suc (recordsFrom m n size k s (at + size))) 0 ≤ length s
+    go true e f = omega (arith, f (fits m n size s at e), mul-suc size (recordsFrom m n size k s (at + size)))
     go false e f = omega (arith, mul-zero size)
 
 -- one more turn of a run's count: n are counted
-pub run-turn : (m k size n : ℕ) (s : List ℕ) (at total : ℕ) → n + runOf m k size (length s - n) s at ≡ total → readable m k size s at ≡ true → n < length s → n + 1 + runOf m k size (length s - (n + 1)) s (at + size) ≡ total
+pub run-turn : (m k size n : ℕ) (s : List ℕ) (at total : ℕ) → n + recordsFrom m k size (length s - n) s at ≡ total → readable m k size s at ≡ true → n < length s → n + 1 + recordsFrom m k size (length s - (n + 1)) s (at + size) ≡ total
 run-turn m k size n s at total e h l =
     let d : length s - n - 1 ≡ length s - (n + 1) = omega arith in
-    omega (arith, run-on m k size (length s - n) s at h (omega arith), ap (λ (j : ℕ). runOf m k size j s (at + size)) d)
+    omega (arith, run-on m k size (length s - n) s at h (omega arith), ap (λ (j : ℕ). recordsFrom m k size j s (at + size)) d)
 
 -- ---- the first record that is not good
 

@@ -1,3 +1,2 @@
-pub mod Layout
-pub mod Ends
+pub mod Scan
 pub mod Read

@@ -4,68 +4,70 @@ use mathlib.Core.Bool.{Bool, cond, _&&_}
 use mathlib.Core.List.{List}
 use lib.Dec.{eqb, leb}
 use lib.ListN.{length}
-use Rattle.records.specs.Offsets.{linkOffset}
-use Rattle.sheet.specs.Layout.{hasOptions, nodesOf, linksOf, endOf}
+use Rattle.layout.specs.declared.places.Layout.{Layout}
+use Rattle.found.specs.Searches.{orElse}
+use Rattle.found.specs.declared.Found.{Found}
+use Rattle.found.specs.declared.Found.the-variants.{At, Nothing}
+use Rattle.nodes.specs.Nodes.{serving}
+use Rattle.sheet.specs.Scan.{hasOptions, layoutOf, endOf}
 use Rattle.fields.specs.Fields.{baseBounds, optionsGood, nodeGood, linkGood}
 use Rattle.ends.specs.Ends.{endsGood}
 use Rattle.fields.specs.declared.fields.Bounds.{Bounds}
-use Rattle.sheet.specs.declared.layout.Found.{Found}
-use Rattle.sheet.specs.declared.layout.Found.the-variants.{At, Nothing}
 use Rattle.refusals.specs.declared.refusals.Refusal.{Refusal}
 use Rattle.refusals.specs.declared.refusals.Refusal.the-variants.{Unreadable, NodeCount, LinkCount, Field, Ends}
 use Rattle.sheet.specs.declared.reading.Reading.{Reading}
 use Rattle.sheet.specs.declared.reading.Reading.the-variants.{Good, Refused}
-
--- what the first of two searches found, else what the second did
-abbrev pub orElse : Found → Found → Found
-orElse (At at) other = At at
-orElse Nothing other = other
 
 -- the first of k records, each `size` bytes from the next, from `at` on, that is not good
 unfoldable pub firstBad : (ℕ → Bool) → ℕ → ℕ → ℕ → Found
 firstBad good size zero at = Nothing
 firstBad good size (suc k) at = cond (good at) (firstBad good size k (at + size)) (At at)
 
--- the first link, behind n nodes, whose ends are not good
-unfoldable pub badEnds : ℕ → ℕ → List ℕ → Found
+-- the first link whose ends are not good
+unfoldable pub badEnds : Layout → List ℕ → Found
 unfolding firstBad
-badEnds n k s = firstBad (endsGood s) 49 k (linkOffset n 0)
+badEnds l s = firstBad (endsGood l s) (l .stride) (l .links) (l .link0)
 
 -- the first node, the first link, the first record that has a field outside its bounds
-unfoldable pub badLink : Bounds → ℕ → ℕ → List ℕ → Found
+unfoldable pub badLink : Bounds → Layout → List ℕ → Found
 unfolding firstBad
-badLink b n k s = firstBad (linkGood b n s) 49 k (linkOffset n 0)
+badLink b l s = firstBad (linkGood b (l .nodes) s) (l .stride) (l .links) (l .link0)
 
-unfoldable pub badNode : Bounds → ℕ → List ℕ → Found
+unfoldable pub badNode : Bounds → Layout → List ℕ → Found
 unfolding firstBad
-badNode b n s = firstBad (nodeGood b s) 45 n 29
+badNode b l s = firstBad (nodeGood b s) 45 (l .nodes) (l .node0)
 
-unfoldable pub badField : Bounds → ℕ → ℕ → List ℕ → Found
+unfoldable pub badField : Bounds → Layout → List ℕ → Found
 unfolding badLink badNode
-badField b n k s = cond (optionsGood b s) (orElse (badNode b n s) (badLink b n k s)) (At 0)
+badField b l s = cond (optionsGood b s) (orElse (badNode b l s) (badLink b l s)) (At 0)
 
 -- what a search for faults leads to
 abbrev pub unless : Found → (ℕ → Refusal) → Reading → Reading
 unless (At at) refusal reading = Refused (refusal at)
 unless Nothing refusal reading = reading
 
--- 3 and 4, for a sheet of n nodes and k links
-unfoldable pub checked : Bounds → ℕ → ℕ → List ℕ → Reading
-unfolding badField badEnds
-checked b n k s = unless (badField b n k s) Field (unless (badEnds n k s) Ends (Good (record { nodes = n; links = k })))
+-- a layout with its unknowns counted: the junctions in service
+unfoldable pub withUnknowns : List ℕ → Layout → Layout
+unfolding serving
+withUnknowns s l =
+    record { nodes = l .nodes; links = l .links; unknowns = serving s l (l .nodes); node0 = l .node0; link0 = l .link0; stride = l .stride }
+
+-- 3 and 4
+unfoldable pub checked : Bounds → Layout → List ℕ → Reading
+unfolding badField badEnds withUnknowns
+checked b l s = unless (badField b l s) Field (unless (badEnds l s) Ends (Good (withUnknowns s l)))
 
 -- 2
-unfoldable pub counted : Bounds → ℕ → ℕ → List ℕ → Reading
+unfoldable pub afterScan : Bounds → Layout → List ℕ → Reading
 unfolding checked
-counted b n k s = cond (leb 1 n && leb n (b .nodes)) (cond (leb k (b .links)) (checked b n k s) (Refused LinkCount)) (Refused NodeCount)
+afterScan b l s =
+    cond (leb 1 (l .nodes) && leb (l .nodes) (b .nodes)) (cond (leb (l .links) (b .links)) (checked b l s) (Refused LinkCount)) (Refused NodeCount)
 
 -- 1
 unfoldable pub readWith : Bounds → List ℕ → Reading
-unfolding counted
+unfolding afterScan
 readWith b s =
-    cond (hasOptions s)
-    (cond (eqb (endOf s) (length s)) (counted b (nodesOf s) (linksOf s) s) (Refused (Unreadable (endOf s))))
-    (Refused (Unreadable 0))
+    cond (hasOptions s) (cond (eqb (endOf s) (length s)) (afterScan b (layoutOf s) s) (Refused (Unreadable (endOf s)))) (Refused (Unreadable 0))
 
 unfoldable pub readOf : List ℕ → Reading
 unfolding readWith

@@ -1,45 +1,37 @@
-// Reading a sheet: refusals 1 to 4, each over the whole sheet before the next, or its counts.
+// Reading a sheet: refusals 1 to 4, each over the whole sheet before the next, or its layout.
 ghost use mathlib.Core.Path.{_≡_};
-ghost use Prim.Native.Nat.{_≤_};
-ghost use lib.ListN.{length};
-ghost use Rattle.records.specs.Offsets.{nodeOffset, linkOffset};
-ghost use Rattle.ends.specs.Ends.{EndsBelow};
-ghost use Rattle.sheet.specs.Read.{badNode, badLink, badField, badEnds, checked, counted, readWith, readOf};
-use crate::layout::Found;
-use crate::layout::is_record;
-use crate::layout::run;
+ghost use Rattle.layout.specs.Places.{Laid};
+ghost use Rattle.links.specs.Links.{EndsIn};
+ghost use Rattle.sheet.specs.Read.{badNode, badLink, badField, badEnds, withUnknowns, checked, afterScan, readWith, readOf};
+use crate::scan::is_record;
+use crate::scan::lay_out;
 use ends::ends_good;
 use fields::Bounds;
 use fields::base_bounds;
 use fields::link_good;
 use fields::node_good;
 use fields::options_good;
-use records::LK_SIZE;
-use records::ND_SIZE;
-use records::OP_SIZE;
-use records::link_offset;
-use records::node_offset;
+use found::Found;
+use layout::Layout;
+use layout::OP_SIZE;
+use layout::link_place;
+use layout::node_place;
+use nodes::count_serving;
 use refusals::Refusal;
 
-// The counts of a sheet that can be read.
-pub struct Net {
-    pub nodes: usize,
-    pub links: usize,
-}
-
-// The counts, or why the sheet is refused.
+// The layout of a sheet, or why it is refused.
 pub enum Reading {
-    Good(Net),
+    Good(Layout),
     Refused(Refusal),
 }
 
 // The first node with a field outside its bounds.
-fn bad_node(sheet: &[u8], nodes: usize, b: Bounds) -> Found
-    requires { ⌜ nodeOffset nodes ≤ length (now sheet) ⌝ }
-    ensures { λ r. ⌜ r ≡ badNode b nodes (now (sheet .entry)) ⌝ }
+fn bad_node(sheet: &[u8], l: Layout, b: Bounds) -> Found
+    requires { ⌜ Laid l (now sheet) ⌝ }
+    ensures { λ r. ⌜ r ≡ badNode b l (now (sheet .entry)) ⌝ }
 {
-    for i in 0..nodes {
-        let at = node_offset(i);
+    for i in 0..l.nodes {
+        let at = node_place(l, i);
         if !node_good(sheet, at, b) {
             return Found::At(at);
         }
@@ -48,13 +40,13 @@ fn bad_node(sheet: &[u8], nodes: usize, b: Bounds) -> Found
 }
 
 // The first link with a field outside its bounds.
-fn bad_link(sheet: &[u8], nodes: usize, links: usize, b: Bounds) -> Found
-    requires { ⌜ linkOffset nodes links ≤ length (now sheet) ⌝ }
-    ensures { λ r. ⌜ r ≡ badLink b nodes links (now (sheet .entry)) ⌝ }
+fn bad_link(sheet: &[u8], l: Layout, b: Bounds) -> Found
+    requires { ⌜ Laid l (now sheet) ⌝ }
+    ensures { λ r. ⌜ r ≡ badLink b l (now (sheet .entry)) ⌝ }
 {
-    for i in 0..links {
-        let at = link_offset(nodes, i);
-        if !link_good(sheet, at, nodes, b) {
+    for j in 0..l.links {
+        let at = link_place(l, j);
+        if !link_good(sheet, at, l.nodes, b) {
             return Found::At(at);
         }
     }
@@ -62,85 +54,98 @@ fn bad_link(sheet: &[u8], nodes: usize, links: usize, b: Bounds) -> Found
 }
 
 // The first record with a field outside its bounds.
-fn bad_field(sheet: &[u8], nodes: usize, links: usize, b: Bounds) -> Found
-    requires { ⌜ linkOffset nodes links ≤ length (now sheet) ⌝ }
-    ensures { λ r. ⌜ r ≡ badField b nodes links (now (sheet .entry)) ⌝ }
+fn bad_field(sheet: &[u8], l: Layout, b: Bounds) -> Found
+    requires { ⌜ Laid l (now sheet) ⌝ }
+    ensures { λ r. ⌜ r ≡ badField b l (now (sheet .entry)) ⌝ }
 {
     if !options_good(sheet, b) {
         return Found::At(0);
     }
-    let Found::At(at) = bad_node(sheet, nodes, b) else {
-        return bad_link(sheet, nodes, links, b);
+    let Found::At(at) = bad_node(sheet, l, b) else {
+        return bad_link(sheet, l, b);
     };
     Found::At(at)
 }
 
 // The first link whose ends are not good.
-fn bad_ends(sheet: &[u8], nodes: usize, links: usize) -> Found
-    requires { ⌜ linkOffset nodes links ≤ length (now sheet) ⌝ }
-    requires { ⌜ EndsBelow nodes links (now sheet) ⌝ }
-    ensures { λ r. ⌜ r ≡ badEnds nodes links (now (sheet .entry)) ⌝ }
+fn bad_ends(sheet: &[u8], l: Layout) -> Found
+    requires { ⌜ Laid l (now sheet) ⌝ }
+    requires { ⌜ EndsIn l (now sheet) ⌝ }
+    ensures { λ r. ⌜ r ≡ badEnds l (now (sheet .entry)) ⌝ }
 {
-    for i in 0..links {
-        let at = link_offset(nodes, i);
-        if !ends_good(sheet, at, nodes) {
+    for j in 0..l.links {
+        let at = link_place(l, j);
+        if !ends_good(sheet, l, at) {
             return Found::At(at);
         }
     }
     Found::Nothing
 }
 
-// Refusals 3 and 4 of a sheet with so many nodes and links.
-fn check(sheet: &[u8], nodes: usize, links: usize, b: Bounds) -> Reading
-    requires { ⌜ linkOffset nodes links ≤ length (now sheet) ⌝ }
-    ensures { λ r. ⌜ r ≡ checked b nodes links (now (sheet .entry)) ⌝ }
+// A layout with its unknowns counted.
+fn with_unknowns(sheet: &[u8], l: Layout) -> Layout
+    requires { ⌜ Laid l (now sheet) ⌝ }
+    ensures { λ r. ⌜ r ≡ withUnknowns (now (sheet .entry)) l ⌝ }
 {
-    let field = bad_field(sheet, nodes, links, b);
+    Layout {
+        nodes: l.nodes,
+        links: l.links,
+        unknowns: count_serving(sheet, l),
+        node0: l.node0,
+        link0: l.link0,
+        stride: l.stride,
+    }
+}
+
+// Refusals 3 and 4 of a sheet that is laid out so.
+fn check(sheet: &[u8], l: Layout, b: Bounds) -> Reading
+    requires { ⌜ Laid l (now sheet) ⌝ }
+    ensures { λ r. ⌜ r ≡ checked b l (now (sheet .entry)) ⌝ }
+{
+    let field = bad_field(sheet, l, b);
     if let Found::At(at) = field {
         return Reading::Refused(Refusal::Field(at));
     }
-    let ends = bad_ends(sheet, nodes, links);
+    let ends = bad_ends(sheet, l);
     if let Found::At(at) = ends {
         return Reading::Refused(Refusal::Ends(at));
     }
-    Reading::Good(Net { nodes, links })
+    Reading::Good(with_unknowns(sheet, l))
 }
 
-// Refusals 2 to 4 of a sheet with so many nodes and links.
-fn check_counts(sheet: &[u8], nodes: usize, links: usize, b: Bounds) -> Reading
-    requires { ⌜ linkOffset nodes links ≤ length (now sheet) ⌝ }
-    ensures { λ r. ⌜ r ≡ counted b nodes links (now (sheet .entry)) ⌝ }
+// Refusals 2 to 4 of a sheet that is laid out so.
+fn check_counts(sheet: &[u8], l: Layout, b: Bounds) -> Reading
+    requires { ⌜ Laid l (now sheet) ⌝ }
+    ensures { λ r. ⌜ r ≡ afterScan b l (now (sheet .entry)) ⌝ }
 {
-    if nodes < 1 {
+    if l.nodes < 1 {
         return Reading::Refused(Refusal::NodeCount);
     }
-    if b.nodes < nodes {
+    if b.nodes < l.nodes {
         return Reading::Refused(Refusal::NodeCount);
     }
-    if b.links < links {
+    if b.links < l.links {
         return Reading::Refused(Refusal::LinkCount);
     }
-    check(sheet, nodes, links, b)
+    check(sheet, l, b)
 }
 
-// The counts of a sheet within given bounds, or its refusal.
+// The layout of a sheet within given bounds, or its refusal.
 pub fn read_within(sheet: &[u8], b: Bounds) -> Reading
     ensures { λ r. ⌜ r ≡ readWith b (now (sheet .entry)) ⌝ }
 {
     if !is_record(sheet, 0, b'O', b'P', OP_SIZE) {
         return Reading::Refused(Refusal::Unreadable(0));
     }
-    let nodes = run(sheet, OP_SIZE, b'N', b'D', ND_SIZE);
-    let from = node_offset(nodes);
-    let links = run(sheet, from, b'L', b'K', LK_SIZE);
-    let end = link_offset(nodes, links);
+    let l = lay_out(sheet);
+    let end = link_place(l, l.links);
     if end != sheet.len() {
         return Reading::Refused(Refusal::Unreadable(end));
     }
-    check_counts(sheet, nodes, links, b)
+    check_counts(sheet, l, b)
 }
 
-// The counts of a sheet within document 01's bounds, or its refusal.
+// The layout of a sheet within document 01's bounds, or its refusal.
 pub fn read(sheet: &[u8]) -> Reading
     ensures { λ r. ⌜ r ≡ readOf (now (sheet .entry)) ⌝ }
 {

@@ -15,7 +15,7 @@ fn line(mark: &[u8], x: usize, y: usize) {
 
 fn show(reading: sheet::Reading) {
     match reading {
-        sheet::Reading::Good(net) => line(b"G ", net.nodes, net.links),
+        sheet::Reading::Good(l) => line(b"G ", l.nodes, l.links),
         sheet::Reading::Refused(refusal) => line(
             b"R ",
             refusals::refusal_number(refusal),

@@ -6,17 +6,17 @@ use lib.ListN.{length, replicate}
 use Rattle.records.specs.Records.{optionsOf}
 use Rattle.refusals.specs.Refusals.{numberOf, placeOf}
 use Rattle.sheet.specs.Read.{readOf}
-use Rattle.sheet.specs.declared.layout.Found.{Found}
-use Rattle.sheet.specs.declared.layout.Found.the-variants.{At, Nothing}
+use Rattle.found.specs.declared.Found.{Found}
+use Rattle.found.specs.declared.Found.the-variants.{At, Nothing}
 use Rattle.sheet.specs.declared.reading.Reading.{Reading}
 use Rattle.sheet.specs.declared.reading.Reading.the-variants as reading
-use Rattle.sheet.specs.declared.reading.Net.{Net}
+use Rattle.layout.specs.declared.places.Layout.{Layout}
 use Rattle.columns.specs.Columns.{zeros}
 use Rattle.state.specs.State.{State, state, headsFrom, demandsFrom, flowsFrom, codesFrom}
 use Rattle.trial.specs.Trial.{Repair, repairOf}
 use Rattle.entries.specs.Entries.{dampingStart, none}
 use Rattle.runs.specs.Run.{runWith, Finished, finish}
-use Rattle.answers.specs.Answers.{Lent, Solved, shortOf, refusedOf}
+use Rattle.answers.specs.Answers.{Lent, Solved, tooShort, refusedOf}
 use Rattle.conclusion.specs.Conclusion.{told}
 
 -- how many trials the sheet allows
@@ -24,39 +24,39 @@ abbrev pub trialsOf : List ℕ → ℕ
 trialsOf s = optionsOf s .trials
 
 -- the columns that a solve starts from, as the sheet gives them, and no node grounded
-unfoldable pub startOf : List ℕ → Net → State
-startOf s net =
-    state (headsFrom s (net .nodes) (zeros 64)) (demandsFrom s (net .nodes) (zeros 64))
-    (flowsFrom s (net .nodes) (net .links) (zeros 128)) (codesFrom s (net .nodes) (net .links) (replicate 128 0)) (replicate 64 false)
+unfoldable pub startOf : List ℕ → Layout → State
+startOf s l =
+    state (headsFrom s l (l .nodes) (zeros 64)) (demandsFrom s l (l .nodes) (zeros 64))
+    (flowsFrom s l (l .links) (zeros 128)) (codesFrom s l (l .links) (replicate 128 0)) (replicate 64 false)
 
 -- the run of a sheet, over a record
-unfoldable pub runOf : Repair → List ℕ → Net → List ℕ → Finished
+unfoldable pub runOf : Repair → List ℕ → Layout → List ℕ → Finished
 unfolding startOf
-runOf repair s net bytes = finish 0 none bytes (runWith repair s (net .nodes) (net .links) (trialsOf s) dampingStart (startOf s net))
+runOf repair s l bytes = finish 0 none bytes (runWith repair s l (trialsOf s) dampingStart (startOf s l))
 
--- the solve of a sheet that was read, with buffers that are long enough
-unfoldable pub solvedWith : Repair → List ℕ → Net → Lent → Solved
+-- the solve of a sheet that was read, with buffers b that are long enough
+unfoldable pub solvedWith : Repair → List ℕ → Layout → Lent → Solved
 unfolding runOf told
-solvedWith repair s net l =
-    let f = runOf repair s net (l .entries) in
-    told s net (trialsOf s) l (f .state) (f .ran .tally) (f .bytes) (f .ran .ended)
+solvedWith repair s l b =
+    let f = runOf repair s l (b .entries) in
+    told s l (trialsOf s) b (f .state) (f .ran .tally) (f .bytes) (f .ran .ended)
 
-unfoldable pub afterShort : Repair → List ℕ → Net → Lent → Found → Solved
+unfoldable pub afterShort : Repair → List ℕ → Layout → Lent → Found → Solved
 unfolding solvedWith refusedOf
-afterShort repair s net l (At place) = refusedOf 5 place l
-afterShort repair s net l Nothing = solvedWith repair s net l
+afterShort repair s l b (At place) = refusedOf 5 place b
+afterShort repair s l b Nothing = solvedWith repair s l b
 
 unfoldable pub afterRead : Repair → List ℕ → Lent → Reading → Solved
-unfolding afterShort refusedOf shortOf
-afterRead repair s l (reading.Refused r) = refusedOf (numberOf r) (placeOf r) l
-afterRead repair s l (reading.Good net) =
-    afterShort repair s net l
-    (shortOf net (trialsOf s) (length (l .heads)) (length (l .demands)) (length (l .flows)) (length (l .statuses)) (length (l .entries)) (length (l .scratch)))
+unfolding afterShort refusedOf tooShort
+afterRead repair s b (reading.Refused r) = refusedOf (numberOf r) (placeOf r) b
+afterRead repair s b (reading.Good l) =
+    afterShort repair s l b
+    (tooShort l (trialsOf s) (length (b .heads)) (length (b .demands)) (length (b .flows)) (length (b .statuses)) (length (b .entries)) (length (b .scratch)))
 
 -- the whole, for a way to repair
 unfoldable pub solveWith : Repair → List ℕ → Lent → Solved
 unfolding afterRead
-solveWith repair s l = afterRead repair s l (readOf s)
+solveWith repair s b = afterRead repair s b (readOf s)
 
 abbrev pub solveOf : List ℕ → Lent → Solved
 solveOf = solveWith repairOf

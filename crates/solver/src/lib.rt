@@ -10,9 +10,9 @@ ghost use Rattle.trial.specs.Trial.{Room, repairOf};
 ghost use Rattle.solver.specs.Solve.{trialsOf, runOf, solvedWith, solveOf};
 use answers::Answer;
 use entries::Tally;
+use found::Found;
+use layout::Layout;
 use runs::Ran;
-use sheet::Found;
-use sheet::Net;
 use sheet::Reading;
 
 // How a run ended, and the columns that it left.
@@ -27,43 +27,35 @@ struct Done {
 
 // The run of a sheet that was read. Its columns are not the caller's, who gets them only of a run
 // that converged.
-fn run(sheet: &[u8], net: Net, trials: usize, entries: &mut [u8], scratch: &mut [f64]) -> Done
-    requires { ⌜ readOf (now sheet) ≡ Reading.Good net ⌝ }
+fn run(sheet: &[u8], l: Layout, trials: usize, entries: &mut [u8], scratch: &mut [f64]) -> Done
+    requires { ⌜ readOf (now sheet) ≡ Reading.Good l ⌝ }
     requires { ⌜ trials ≡ trialsOf (now sheet) ⌝ }
     requires { ⌜ (4 * trials ≤ length (now entries)) × (4096 ≤ length (now scratch)) ⌝ }
-    ensures state { λ r. ⌜ record { ran = r .ran; bytes = now (entries .exit); state = state (r .heads) (r .demands) (r .flows) (r .statuses) (r .grounded) } ≡ runOf repairOf (now (sheet .entry)) net (now (entries .entry)) ⌝ }
-    ensures room { λ r. ⌜ Room (net .nodes) (net .links) (state (r .heads) (r .demands) (r .flows) (r .statuses) (r .grounded)) ⌝ }
+    ensures state { λ r. ⌜ record { ran = r .ran; bytes = now (entries .exit); state = state (r .heads) (r .demands) (r .flows) (r .statuses) (r .grounded) } ≡ runOf repairOf (now (sheet .entry)) l (now (entries .entry)) ⌝ }
+    ensures room { λ r. ⌜ Room l (state (r .heads) (r .demands) (r .flows) (r .statuses) (r .grounded)) ⌝ }
     ensures emptied { λ r. ⌜ now (scratch .exit) ≡ emptied (now (scratch .entry)) ⌝ }
 {
     let mut h = [0.0f64; 64];
     let mut d = [0.0f64; 64];
     let mut q = [0.0f64; 128];
-    let mut s = [0u8; 128];
-    let mut k = [false; 64];
+    let mut c = [0u8; 128];
+    let mut z = [false; 64];
     let mut unknowns = [0usize; 64];
-    let mut back = [0usize; 64];
-    let a = power::table_a();
-    let b = power::table_b();
-    let nodes = net.nodes;
-    let links = net.links;
-    state::start_nodes(sheet, nodes, &mut h, &mut d);
-    state::start_links(sheet, nodes, links, &mut q, &mut s);
-    let count = numbering::number_unknowns(sheet, nodes, &mut unknowns, &mut back);
+    let table = power::power_table();
+    state::start_nodes(sheet, l, &mut h, &mut d);
+    state::start_links(sheet, l, &mut q, &mut c);
+    numbering::number_unknowns(sheet, l, &mut unknowns);
     let ran = runs::run_trials(
         sheet,
-        nodes,
-        links,
+        l,
         trials,
         &unknowns,
-        &back,
-        count,
-        &a,
-        &b,
+        &table,
         &mut h,
         &mut d,
         &mut q,
-        &mut s,
-        &mut k,
+        &mut c,
+        &mut z,
         entries,
         &mut scratch[..4096],
     );
@@ -72,15 +64,15 @@ fn run(sheet: &[u8], net: Net, trials: usize, entries: &mut [u8], scratch: &mut 
         heads: h,
         demands: d,
         flows: q,
-        statuses: s,
-        grounded: k,
+        statuses: c,
+        grounded: z,
     }
 }
 
 // The solve of a sheet that was read, with buffers that are long enough.
 fn solved(
     sheet: &[u8],
-    net: Net,
+    l: Layout,
     trials: usize,
     heads: &mut [f64],
     demands: &mut [f64],
@@ -89,29 +81,29 @@ fn solved(
     entries: &mut [u8],
     scratch: &mut [f64],
 ) -> Answer
-    requires { ⌜ readOf (now sheet) ≡ Reading.Good net ⌝ }
+    requires { ⌜ readOf (now sheet) ≡ Reading.Good l ⌝ }
     requires { ⌜ trials ≡ trialsOf (now sheet) ⌝ }
-    requires { ⌜ Enough net trials (lent (now heads) (now demands) (now flows) (now statuses) (now entries) (now scratch)) ⌝ }
-    ensures { λ r. ⌜ record { answer = r; lent = lent (now (heads .exit)) (now (demands .exit)) (now (flows .exit)) (now (statuses .exit)) (now (entries .exit)) (now (scratch .exit)) } ≡ solvedWith repairOf (now (sheet .entry)) net (lent (now (heads .entry)) (now (demands .entry)) (now (flows .entry)) (now (statuses .entry)) (now (entries .entry)) (now (scratch .entry))) ⌝ }
+    requires { ⌜ Enough l trials (lent (now heads) (now demands) (now flows) (now statuses) (now entries) (now scratch)) ⌝ }
+    ensures { λ r. ⌜ record { answer = r; lent = lent (now (heads .exit)) (now (demands .exit)) (now (flows .exit)) (now (statuses .exit)) (now (entries .exit)) (now (scratch .exit)) } ≡ solvedWith repairOf (now (sheet .entry)) l (lent (now (heads .entry)) (now (demands .entry)) (now (flows .entry)) (now (statuses .entry)) (now (entries .entry)) (now (scratch .entry))) ⌝ }
 {
-    let done = run(sheet, net, trials, entries, scratch);
+    let done = run(sheet, l, trials, entries, scratch);
     let ran = done.ran;
     let h = done.heads;
     let mut d = done.demands;
     let q = done.flows;
-    let s = done.statuses;
+    let c = done.statuses;
     let tally = ran.tally;
     let ended = ran.ended;
     conclusion::conclude(
         sheet,
-        net,
+        l,
         trials,
         ended,
         tally,
         &h,
         &mut d,
         &q,
-        &s,
+        &c,
         heads,
         demands,
         flows,
@@ -141,11 +133,11 @@ pub fn solve(
             refusals::refusal_place(r),
             none,
         ),
-        Reading::Good(net) => {
+        Reading::Good(l) => {
             let options = records::options_of(sheet);
             let trials = options.trials;
-            match answers::short(
-                net,
+            match answers::too_short(
+                l,
                 trials,
                 heads.len(),
                 demands.len(),
@@ -157,7 +149,7 @@ pub fn solve(
                 Found::At(place) => answers::failed(5, place, none),
                 Found::Nothing => solved(
                     sheet,
-                    net,
+                    l,
                     trials,
                     heads,
                     demands,

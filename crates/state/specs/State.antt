@@ -1,11 +1,12 @@
 -- state.rs: the columns of a solve, what they start from, and the heads that a step puts in. Definitions only.
-use Prim.Native.Nat.{ℕ, zero, suc, _+_}
+use Prim.Native.Nat.{ℕ, zero, suc}
 use mathlib.Core.Bool.{Bool}
 use mathlib.Core.List.{List}
 use lib.ListN.{getD, set}
 use lib.Ieee.{Float, nan}
-use Rattle.records.specs.Offsets.{nodeOffset, linkOffset}
-use Rattle.records.specs.Records.{byteAt, nodeAt, linkAt}
+use Rattle.layout.specs.declared.places.Layout.{Layout}
+use Rattle.nodes.specs.Nodes.{nodeOf}
+use Rattle.links.specs.Links.{linkOf, linkStatus}
 use Rattle.numbering.specs.Numbering.{rowAt}
 use Rattle.numbering.specs.declared.Row.{Row}
 use Rattle.numbering.specs.declared.Row.the-variants.{Unknown, Fixed}
@@ -21,22 +22,22 @@ pub record State : Type 0 where
 abbrev pub state : List Float → List Float → List Float → List ℕ → List Bool → State
 state h d q t k = record { heads = h; demands = d; flows = q; statuses = t; grounded = k }
 
--- the first i heads and demands, flows and status codes, as the sheet gives them
-unfoldable pub headsFrom : List ℕ → ℕ → List Float → List Float
-headsFrom s zero x = x
-headsFrom s (suc i) x = set (headsFrom s i x) i (nodeAt s (nodeOffset i) .head)
+-- the first i heads and demands, the first j flows and status codes, as the sheet gives them
+unfoldable pub headsFrom : List ℕ → Layout → ℕ → List Float → List Float
+headsFrom s l zero x = x
+headsFrom s l (suc i) x = set (headsFrom s l i x) i (nodeOf s l i .head)
 
-unfoldable pub demandsFrom : List ℕ → ℕ → List Float → List Float
-demandsFrom s zero x = x
-demandsFrom s (suc i) x = set (demandsFrom s i x) i (nodeAt s (nodeOffset i) .demand)
+unfoldable pub demandsFrom : List ℕ → Layout → ℕ → List Float → List Float
+demandsFrom s l zero x = x
+demandsFrom s l (suc i) x = set (demandsFrom s l i x) i (nodeOf s l i .demand)
 
-unfoldable pub flowsFrom : List ℕ → ℕ → ℕ → List Float → List Float
-flowsFrom s n zero x = x
-flowsFrom s n (suc i) x = set (flowsFrom s n i x) i (linkAt s (linkOffset n i) .flow)
+unfoldable pub flowsFrom : List ℕ → Layout → ℕ → List Float → List Float
+flowsFrom s l zero x = x
+flowsFrom s l (suc j) x = set (flowsFrom s l j x) j (linkOf s l j .flow)
 
-unfoldable pub codesFrom : List ℕ → ℕ → ℕ → List ℕ → List ℕ
-codesFrom s n zero x = x
-codesFrom s n (suc i) x = set (codesFrom s n i x) i (byteAt s (linkOffset n i + 4))
+unfoldable pub codesFrom : List ℕ → Layout → ℕ → List ℕ → List ℕ
+codesFrom s l zero x = x
+codesFrom s l (suc j) x = set (codesFrom s l j x) j (linkStatus s l j)
 
 -- the head of node i, which has this row, from the solved unknowns x; a node that is no unknown keeps its own
 unfoldable pub withHead : Row → List Float → ℕ → List Float → List Float
@@ -44,7 +45,7 @@ withHead (Unknown u) x i h = set h i (getD x (u .0) nan)
 withHead Fixed x i h = h
 
 -- and of the first i nodes
-unfoldable pub solvedHeads : List ℕ → List Float → ℕ → List Float → List Float
+unfoldable pub solvedHeads : List ℕ → Layout → List Float → ℕ → List Float → List Float
 unfolding rowAt withHead
-solvedHeads s x zero h = h
-solvedHeads s x (suc i) h = withHead (rowAt s i) x i (solvedHeads s x i h)
+solvedHeads s l x zero h = h
+solvedHeads s l x (suc i) h = withHead (rowAt s l i) x i (solvedHeads s l x i h)

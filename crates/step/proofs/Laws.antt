@@ -6,17 +6,18 @@ use mathlib.Core.Bool.{Bool, true, false}
 use lib.Ieee.{Float}
 use Rattle.records.specs.Records.{optionsOf}
 use Rattle.records.specs.declared.records.Options.{Options}
-use Rattle.sheet.specs.declared.layout.Found.{Found}
-use Rattle.sheet.specs.declared.layout.Found.the-variants.{At, Nothing}
+use Rattle.found.specs.declared.Found.{Found}
+use Rattle.found.specs.declared.Found.the-variants.{At, Nothing}
 use Rattle.damping.specs.Damping.{dampedOf, relativeChange, convergedOf}
 use Rattle.state.specs.State.{State, state, solvedHeads}
 use Rattle.wild.specs.Wild.{wildPlace}
-use Rattle.update.specs.Update.{step, stepping, updateOf}
+use Rattle.layout.specs.declared.places.Layout.{Layout}
+use Rattle.update.specs.Update.{basis, stepping, updateOf}
 use Rattle.update.specs.declared.Stats.{Stats}
 use Rattle.tanks.specs.Tanks.{tanks, tankLinksOf}
-use Rattle.repair.specs.declared.Damping.{Damping}
-use Rattle.repair.specs.declared.Entry.{Entry}
-use Rattle.repair.specs.declared.Entry.the-variants.{Wild, Stepped, Converged}
+use Rattle.damping.specs.declared.steps.Damping.{Damping}
+use Rattle.entries.specs.declared.Entry.{Entry}
+use Rattle.entries.specs.declared.Entry.the-variants.{Wild, Stepped, Converged}
 use Rattle.step.specs.Step.{outcome, judged, verdict, stepOf}
 
 -- ---- the verdict
@@ -42,11 +43,11 @@ module _ (o : Options) (d : Damping) (f : Found) (m : Stats) where
 
 -- ---- the calls of a step
 
-pub step-of : (s : List ℕ) (n k : ℕ) (d : Damping) (t : State) (g y x h q w : List Float) (codes codes' : List ℕ) (m : Stats) (r : Entry)
-    → h ≡ solvedHeads s x n (t .heads)
-    → stepping q codes m ≡ updateOf s n k (step h g y (d .factor)) (t .flows) (t .statuses)
-    → tanks w codes' ≡ tankLinksOf s n k h q (t .demands) codes
-    → r ≡ verdict (wildPlace n k h q) (optionsOf s) d m
-    → outcome r (state h w q codes' (t .grounded)) ≡ stepOf s n k d t g y x
+pub step-of : (s : List ℕ) (l : Layout) (d : Damping) (t : State) (g y x h q w : List Float) (codes codes' : List ℕ) (m : Stats) (r : Entry)
+    → h ≡ solvedHeads s l x (l .nodes) (t .heads)
+    → stepping q codes m ≡ updateOf s l (basis h g y (d .factor)) (t .flows) (t .statuses)
+    → tanks w codes' ≡ tankLinksOf s l h q (t .demands) codes
+    → r ≡ verdict (wildPlace (l .nodes) (l .links) h q) (optionsOf s) d m
+    → outcome r (state h w q codes' (t .grounded)) ≡ stepOf s l d t g y x
 unfolding stepOf
-step-of s n k d t g y x h q w codes codes' m r eh eu et er = rw (← eh, ← eu, ← et, er)
+step-of s l d t g y x h q w codes codes' m r eh eu et er = rw (← eh, ← eu, ← et, er)

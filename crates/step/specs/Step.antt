@@ -6,17 +6,18 @@ use lib.ListN.{length}
 use lib.Ieee.{Float}
 use Rattle.records.specs.Records.{optionsOf}
 use Rattle.records.specs.declared.records.Options.{Options}
-use Rattle.sheet.specs.declared.layout.Found.{Found}
-use Rattle.sheet.specs.declared.layout.Found.the-variants.{At, Nothing}
+use Rattle.found.specs.declared.Found.{Found}
+use Rattle.found.specs.declared.Found.the-variants.{At, Nothing}
 use Rattle.damping.specs.Damping.{dampedOf, relativeChange, convergedOf}
 use Rattle.state.specs.State.{State, state, solvedHeads}
 use Rattle.wild.specs.Wild.{wildPlace}
-use Rattle.update.specs.Update.{step, updateOf}
+use Rattle.layout.specs.declared.places.Layout.{Layout}
+use Rattle.update.specs.Update.{basis, updateOf}
 use Rattle.update.specs.declared.Stats.{Stats}
 use Rattle.tanks.specs.Tanks.{tankLinksOf}
-use Rattle.repair.specs.declared.Entry.{Entry}
-use Rattle.repair.specs.declared.Entry.the-variants.{Wild, Stepped, Converged}
-use Rattle.repair.specs.declared.Damping.{Damping}
+use Rattle.entries.specs.declared.Entry.{Entry}
+use Rattle.entries.specs.declared.Entry.the-variants.{Wild, Stepped, Converged}
+use Rattle.damping.specs.declared.steps.Damping.{Damping}
 
 -- what a trial came to, and the state that it leaves
 pub record Outcome : Type 0 where
@@ -24,7 +25,7 @@ pub record Outcome : Type 0 where
   pub state : State
 
 abbrev pub outcome : Entry → State → Outcome
-outcome e s = record { entry = e; state = s }
+outcome e t = record { entry = e; state = t }
 
 -- relative change, damping and convergence, by the sheet's options
 unfoldable pub judged : Options → Damping → Stats → Entry
@@ -40,18 +41,18 @@ verdict (At place) o d m = Wild place
 verdict Nothing o d m = judged o d m
 
 -- a step with the solved unknowns x: heads, flows and statuses, tank links, then the verdict
-unfoldable pub stepOf : List ℕ → ℕ → ℕ → Damping → State → List Float → List Float → List Float → Outcome
+unfoldable pub stepOf : List ℕ → Layout → Damping → State → List Float → List Float → List Float → Outcome
 unfolding verdict
-stepOf s n k d t g y x =
-    let h = solvedHeads s x n (t .heads) in
-    let u = updateOf s n k (step h g y (d .factor)) (t .flows) (t .statuses) in
-    let w = tankLinksOf s n k h (u .flows) (t .demands) (u .codes) in
-    outcome (verdict (wildPlace n k h (u .flows)) (optionsOf s) d (u .stats)) (state h (w .demands) (u .flows) (w .codes) (t .grounded))
+stepOf s l d t g y x =
+    let h = solvedHeads s l x (l .nodes) (t .heads) in
+    let u = updateOf s l (basis h g y (d .factor)) (t .flows) (t .statuses) in
+    let w = tankLinksOf s l h (u .flows) (t .demands) (u .codes) in
+    outcome (verdict (wildPlace (l .nodes) (l .links) h (u .flows)) (optionsOf s) d (u .stats)) (state h (w .demands) (u .flows) (w .codes) (t .grounded))
 
--- the columns are long enough for n nodes and k links
-pub record Room (n k : ℕ) (t : State) : Type 0 where
-  pub heads : n ≤ length (t .heads)
-  pub demands : n ≤ length (t .demands)
-  pub flows : k ≤ length (t .flows)
-  pub statuses : k ≤ length (t .statuses)
-  pub grounded : n ≤ length (t .grounded)
+-- the columns are long enough for the nodes and links
+pub record Room (l : Layout) (t : State) : Type 0 where
+  pub heads : l .nodes ≤ length (t .heads)
+  pub demands : l .nodes ≤ length (t .demands)
+  pub flows : l .links ≤ length (t .flows)
+  pub statuses : l .links ≤ length (t .statuses)
+  pub grounded : l .nodes ≤ length (t .grounded)

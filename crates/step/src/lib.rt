@@ -6,10 +6,11 @@ ghost use Rattle.numbering.specs.Numbering.{RowsRight};
 ghost use Rattle.state.specs.Network.{Network};
 ghost use Rattle.state.specs.State.{state};
 ghost use Rattle.step.specs.Step.{Room, outcome, judged, stepOf};
+use damping::Damping;
+use entries::Entry;
+use found::Found;
+use layout::Layout;
 use records::Options;
-use repair::Damping;
-use repair::Entry;
-use sheet::Found;
 use update::Stats;
 
 // Relative change, damping and convergence.
@@ -36,8 +37,7 @@ fn judge(options: Options, d: Damping, stats: Stats) -> Entry
 // The step of a trial whose matrix was factored: x is the solved right side.
 pub fn step(
     sheet: &[u8],
-    nodes: usize,
-    links: usize,
+    l: Layout,
     unknowns: &[usize],
     d: Damping,
     g: &[f64],
@@ -49,16 +49,16 @@ pub fn step(
     statuses: &mut [u8],
     grounded: &[bool],
 ) -> Entry
-    requires { ⌜ Network nodes links (now sheet) ⌝ }
-    requires { ⌜ (nodes ≤ length (now unknowns)) × (RowsRight nodes (now sheet) (now unknowns)) ⌝ }
-    requires { ⌜ (links ≤ length (now g)) × ((links ≤ length (now y)) × (64 ≤ length (now x))) ⌝ }
-    requires { ⌜ Room nodes links (state (now heads) (now demands) (now flows) (now statuses) (now grounded)) ⌝ }
-    ensures { λ r. ⌜ outcome r (state (now (heads .exit)) (now (demands .exit)) (now (flows .exit)) (now (statuses .exit)) (now (grounded .entry))) ≡ stepOf (now (sheet .entry)) nodes links d (state (now (heads .entry)) (now (demands .entry)) (now (flows .entry)) (now (statuses .entry)) (now (grounded .entry))) (now (g .entry)) (now (y .entry)) (now (x .entry)) ⌝ }
+    requires { ⌜ Network l (now sheet) ⌝ }
+    requires { ⌜ (l .nodes ≤ length (now unknowns)) × (RowsRight l (now sheet) (now unknowns)) ⌝ }
+    requires { ⌜ (l .links ≤ length (now g)) × ((l .links ≤ length (now y)) × (64 ≤ length (now x))) ⌝ }
+    requires { ⌜ Room l (state (now heads) (now demands) (now flows) (now statuses) (now grounded)) ⌝ }
+    ensures { λ r. ⌜ outcome r (state (now (heads .exit)) (now (demands .exit)) (now (flows .exit)) (now (statuses .exit)) (now (grounded .entry))) ≡ stepOf (now (sheet .entry)) l d (state (now (heads .entry)) (now (demands .entry)) (now (flows .entry)) (now (statuses .entry)) (now (grounded .entry))) (now (g .entry)) (now (y .entry)) (now (x .entry)) ⌝ }
 {
-    state::put_heads(sheet, nodes, unknowns, x, heads);
-    let stats = update::update_links(sheet, nodes, links, heads, g, y, d.factor, flows, statuses);
-    tanks::tank_links(sheet, nodes, links, heads, flows, demands, statuses);
-    match wild::wild_place(nodes, links, heads, flows) {
+    state::put_heads(sheet, l, unknowns, x, heads);
+    let stats = update::update_links(sheet, l, heads, g, y, d.factor, flows, statuses);
+    tanks::tank_links(sheet, l, heads, flows, demands, statuses);
+    match wild::wild_place(l.nodes, l.links, heads, flows) {
         Found::At(place) => Entry::Wild(place),
         Found::Nothing => judge(records::options_of(sheet), d, stats),
     }

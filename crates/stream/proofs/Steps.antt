@@ -9,7 +9,7 @@ use borrow.Author.Tests.{eq-eqb, ne-eqb, lt-ltb, le-ltb}
 use lib.Dec.{eqb, ltb}
 use lib.ListN.{length, getD, drop, drop-of-length-le}
 use lib.Seq.{drop-cons}
-use Rattle.offsets.specs.Offsets.{nodeOffset, linkOffset}
+use Rattle.layout.specs.Places.{nodeOffset, linkOffset}
 use Rattle.words.specs.Buffer.{placed}
 use Rattle.text.specs.Lines.{answerLine}
 use Rattle.text.proofs.LineLaws.{answer-length}

@@ -3,7 +3,7 @@ use Prim.Native.Nat.{ℕ, _+_}
 use mathlib.Core.Bool.{Bool, true, cond, _&&_}
 use mathlib.Core.List.{List, [], _∷_}
 use lib.Dec.{eqb, leb, ltb}
-use Rattle.offsets.specs.Offsets.{nodeOffset, linkOffset}
+use Rattle.layout.specs.Places.{nodeOffset, linkOffset}
 use Rattle.refusals.specs.Refusals.{numberOf, placeOf}
 use Rattle.text.specs.Lines.{answerLine}
 use Rattle.refusals.specs.declared.refusals.Refusal.{Refusal}

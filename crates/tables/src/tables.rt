@@ -1,12 +1,13 @@
-// The two tables of x^0.852, as bit patterns of f64s: m^0.852 at each step of 1/1,024 of m from 1 to
-// 2, and 2^(0.852e) at each e from 63 down to -64. A table is made once by the caller and lent
-// down: a function that indexes a const copies the whole table at each call.
+// The two tables of x^0.852, as bit patterns of f64s: A, m^0.852 at each step of 1/1,024 of m from 1
+// to 2, and behind it B, 2^(0.852e) at each e from 63 down to -64. The caller makes them once and
+// lends them down as one table: a function that indexes a const copies the whole of it at each call.
 ghost use mathlib.Core.Path.{_≡_};
 ghost use Prim.Native.Nat.{_<_};
 ghost use Rattle.tables.specs.Entries.{entryA, entryB};
-ghost use Rattle.tables.specs.Tables.{tableA, tableB};
+ghost use Rattle.tables.specs.Tables.{powerTable};
 
-const A: [u64; 1025] = [
+const TABLE: [u64; 1153] = [
+    // A
     0x3ff0000000000000,
     0x3ff00368628dc1ef,
     0x3ff006d0a4dcf0db,
@@ -1032,9 +1033,7 @@ const A: [u64; 1025] = [
     0x3ffcdb2252647a32,
     0x3ffcde35cacce3ba,
     0x3ffce14934a227b3,
-];
-
-const B: [u64; 128] = [
+    // B
     0x43499031e4efdf5b,
     0x433c532dfcd99d1e,
     0x432f628aa6577f3c,
@@ -1165,30 +1164,24 @@ const B: [u64; 128] = [
     0x3c86314762af55f4,
 ];
 
-pub fn table_a() -> [u64; 1025]
-    ensures { λ r. ⌜ r ≡ tableA ⌝ }
+pub fn power_table() -> [u64; 1153]
+    ensures { λ r. ⌜ r ≡ powerTable ⌝ }
 {
-    A
+    TABLE
 }
 
-pub fn table_b() -> [u64; 128]
-    ensures { λ r. ⌜ r ≡ tableB ⌝ }
-{
-    B
-}
-
-// Entry i of a lent table A.
-pub fn entry_a(a: &[u64; 1025], i: usize) -> f64
-    requires { ⌜ (now a ≡ tableA) × (i < 1025) ⌝ }
+// Entry i of A in a lent table.
+pub fn entry_a(t: &[u64; 1153], i: usize) -> f64
+    requires { ⌜ (now t ≡ powerTable) × (i < 1025) ⌝ }
     ensures { λ r. ⌜ r ≡ entryA i ⌝ }
 {
-    f64::from_bits(a[i])
+    f64::from_bits(t[i])
 }
 
-// Entry j of a lent table B.
-pub fn entry_b(b: &[u64; 128], j: usize) -> f64
-    requires { ⌜ (now b ≡ tableB) × (j < 128) ⌝ }
+// Entry j of B, which follows A.
+pub fn entry_b(t: &[u64; 1153], j: usize) -> f64
+    requires { ⌜ (now t ≡ powerTable) × (j < 128) ⌝ }
     ensures { λ r. ⌜ r ≡ entryB j ⌝ }
 {
-    f64::from_bits(b[j])
+    f64::from_bits(t[1025 + j])
 }

@@ -9,28 +9,25 @@ use borrow.Author.Tests.{eq-eqb, ne-eqb}
 use lib.Dec.{eqb}
 use lib.ListN.{length, getD, set}
 use lib.Ieee.{Float, nan, lt, le}
-use Rattle.records.specs.Offsets.{nodeOffset, linkOffset}
-use Rattle.records.specs.Records.{shortAt, nodeAt}
+use Rattle.layout.specs.declared.places.Layout.{Layout}
+use Rattle.nodes.specs.Nodes.{nodeOf, tankAt}
+use Rattle.links.specs.Links.{linkStart, linkEnd}
 use Rattle.records.specs.declared.records.Node.{Node}
 use Rattle.constants.specs.Arithmetic.{plus}
 use Rattle.constants.specs.Constants as constant
 use Rattle.columns.specs.Columns.{addTo, takeFrom}
-use Rattle.tanks.specs.Tanks.{Tanks, tanks, tankAt, fullAt, emptyAt, shut, linksTo, linksFrom, tankUpdate, tankUpdates, tankLinksOf}
+use Rattle.tanks.specs.Tanks.{Tanks, tanks, fullAt, emptyAt, shut, linksTo, linksFrom, tankUpdate, tankUpdates, tankLinksOf}
 
 -- ---- one node
 
-module _ (s : List ℕ) (i at : ℕ) (here : at ≡ nodeOffset i) where
-  pub tank-of : eqb (getD s (at + 2) 0) 2 ≡ tankAt s i
-  unfolding tankAt
-  tank-of = rw here
-
-  pub full-of : (m : Node) (head : Float) → m ≡ nodeAt s at → (le (plus (m .elevation) (m .highest)) head && not (m .overflow)) ≡ fullAt s i head
+module _ (s : List ℕ) (l : Layout) (i : ℕ) (m : Node) (head : Float) (read : m ≡ nodeOf s l i) where
+  pub full-of : (le (plus (m .elevation) (m .highest)) head && not (m .overflow)) ≡ fullAt s l i head
   unfolding fullAt
-  full-of m head read = rw (read, here)
+  full-of = rw read
 
-  pub empty-of : (m : Node) (head : Float) → m ≡ nodeAt s at → le head (plus (m .elevation) (m .lowest)) ≡ emptyAt s i head
+  pub empty-of : le head (plus (m .elevation) (m .lowest)) ≡ emptyAt s l i head
   unfolding emptyAt
-  empty-of m head read = rw (read, here)
+  empty-of = rw read
 
 -- ---- one link
 
@@ -56,68 +53,68 @@ pub next : {k : ℕ} {done : ℕ → Tanks → Tanks} {d₀ d d₁ : List Float}
     → tanks d₁ t₁ ≡ done (j + 1) (tanks d₀ t₀) → length d₁ ≡ length d → length t₁ ≡ length t → Reached k done d₀ t₀ d₁ t₁ (j + 1)
 next v l e a b = record { upto = omega arith; made = e; d-long = a ∙ v .d-long; t-long = b ∙ v .t-long }
 
-module _ (s : List ℕ) (n i : ℕ) (q : List Float) (full empty : Bool) where
-  pub to-none : (t : Tanks) → t ≡ linksTo s n i q full empty 0 t
+module _ (s : List ℕ) (l : Layout) (i : ℕ) (q : List Float) (full empty : Bool) where
+  pub to-none : (t : Tanks) → t ≡ linksTo s l i q full empty 0 t
   unfolding linksTo
   to-none t = refl
 
-  pub from-none : (t : Tanks) → t ≡ linksFrom s n i q full empty 0 t
+  pub from-none : (t : Tanks) → t ≡ linksFrom s l i q full empty 0 t
   unfolding linksFrom
   from-none t = refl
 
-module _ (s : List ℕ) (n i : ℕ) (q : List Float) (full empty : Bool) (j : ℕ) (t₀ : Tanks) (d : List Float) (t : List ℕ) (at end : ℕ) (here : at ≡ linkOffset n j) where
-  pub to-here : (d₁ : List Float) (t₁ : List ℕ) → tanks d t ≡ linksTo s n i q full empty j t₀ → end ≡ shortAt s (at + 7) → end ≡ i
-      → d₁ ≡ addTo d i (getD q j nan) → t₁ ≡ shut full empty (getD q j nan) j t → tanks d₁ t₁ ≡ linksTo s n i q full empty (j + 1) t₀
+module _ (s : List ℕ) (l : Layout) (i : ℕ) (q : List Float) (full empty : Bool) (j : ℕ) (t₀ : Tanks) (d : List Float) (t : List ℕ) (end : ℕ) where
+  pub to-here : (d₁ : List Float) (t₁ : List ℕ) → tanks d t ≡ linksTo s l i q full empty j t₀ → end ≡ linkEnd s l j → end ≡ i
+      → d₁ ≡ addTo d i (getD q j nan) → t₁ ≡ shut full empty (getD q j nan) j t → tanks d₁ t₁ ≡ linksTo s l i q full empty (j + 1) t₀
   unfolding linksTo
   to-here d₁ t₁ h read e a b =
-      let y : eqb (shortAt s (linkOffset n j + 7)) i ≡ true = rw (← here, ← read) (eq-eqb end i e) in
+      let y : eqb (linkEnd s l j) i ≡ true = rw (← read) (eq-eqb end i e) in
       rw (add-one j, y, ← h, a, b)
 
-  pub to-other : (d₁ : List Float) (t₁ : List ℕ) → tanks d t ≡ linksTo s n i q full empty j t₀ → end ≡ shortAt s (at + 7) → (end ≡ i → ⊥)
-      → d₁ ≡ d → t₁ ≡ t → tanks d₁ t₁ ≡ linksTo s n i q full empty (j + 1) t₀
+  pub to-other : (d₁ : List Float) (t₁ : List ℕ) → tanks d t ≡ linksTo s l i q full empty j t₀ → end ≡ linkEnd s l j → (end ≡ i → ⊥)
+      → d₁ ≡ d → t₁ ≡ t → tanks d₁ t₁ ≡ linksTo s l i q full empty (j + 1) t₀
   unfolding linksTo
   to-other d₁ t₁ h read e a b =
-      let y : eqb (shortAt s (linkOffset n j + 7)) i ≡ false = rw (← here, ← read) (ne-eqb end i e) in
+      let y : eqb (linkEnd s l j) i ≡ false = rw (← read) (ne-eqb end i e) in
       rw (add-one j, y, a, b) h
 
-  pub from-here : (d₁ : List Float) (t₁ : List ℕ) → tanks d t ≡ linksFrom s n i q full empty j t₀ → end ≡ shortAt s (at + 5) → end ≡ i
-      → d₁ ≡ takeFrom d i (getD q j nan) → t₁ ≡ shut empty full (getD q j nan) j t → tanks d₁ t₁ ≡ linksFrom s n i q full empty (j + 1) t₀
+  pub from-here : (d₁ : List Float) (t₁ : List ℕ) → tanks d t ≡ linksFrom s l i q full empty j t₀ → end ≡ linkStart s l j → end ≡ i
+      → d₁ ≡ takeFrom d i (getD q j nan) → t₁ ≡ shut empty full (getD q j nan) j t → tanks d₁ t₁ ≡ linksFrom s l i q full empty (j + 1) t₀
   unfolding linksFrom
   from-here d₁ t₁ h read e a b =
-      let y : eqb (shortAt s (linkOffset n j + 5)) i ≡ true = rw (← here, ← read) (eq-eqb end i e) in
+      let y : eqb (linkStart s l j) i ≡ true = rw (← read) (eq-eqb end i e) in
       rw (add-one j, y, ← h, a, b)
 
-  pub from-other : (d₁ : List Float) (t₁ : List ℕ) → tanks d t ≡ linksFrom s n i q full empty j t₀ → end ≡ shortAt s (at + 5) → (end ≡ i → ⊥)
-      → d₁ ≡ d → t₁ ≡ t → tanks d₁ t₁ ≡ linksFrom s n i q full empty (j + 1) t₀
+  pub from-other : (d₁ : List Float) (t₁ : List ℕ) → tanks d t ≡ linksFrom s l i q full empty j t₀ → end ≡ linkStart s l j → (end ≡ i → ⊥)
+      → d₁ ≡ d → t₁ ≡ t → tanks d₁ t₁ ≡ linksFrom s l i q full empty (j + 1) t₀
   unfolding linksFrom
   from-other d₁ t₁ h read e a b =
-      let y : eqb (shortAt s (linkOffset n j + 5)) i ≡ false = rw (← here, ← read) (ne-eqb end i e) in
+      let y : eqb (linkStart s l j) i ≡ false = rw (← read) (ne-eqb end i e) in
       rw (add-one j, y, a, b) h
 
 -- ---- one tank, and all
 
-pub tank-made : (s : List ℕ) (n k : ℕ) (head : Float) (q : List Float) (i : ℕ) (full empty : Bool) (d d₁ d₂ : List Float) (t t₁ t₂ : List ℕ)
-    → full ≡ fullAt s i head → empty ≡ emptyAt s i head
-    → tanks d₁ t₁ ≡ linksTo s n i q full empty k (tanks (set d i constant.zero) t)
-    → tanks d₂ t₂ ≡ linksFrom s n i q full empty k (tanks d₁ t₁)
-    → tanks d₂ t₂ ≡ tankUpdate s n k head q i (tanks d t)
+pub tank-made : (s : List ℕ) (l : Layout) (head : Float) (q : List Float) (i : ℕ) (full empty : Bool) (d d₁ d₂ : List Float) (t t₁ t₂ : List ℕ)
+    → full ≡ fullAt s l i head → empty ≡ emptyAt s l i head
+    → tanks d₁ t₁ ≡ linksTo s l i q full empty (l .links) (tanks (set d i constant.zero) t)
+    → tanks d₂ t₂ ≡ linksFrom s l i q full empty (l .links) (tanks d₁ t₁)
+    → tanks d₂ t₂ ≡ tankUpdate s l head q i (tanks d t)
 unfolding tankUpdate
-tank-made s n k head q i full empty d d₁ d₂ t t₁ t₂ f e a b = rw (b, a, f, e)
+tank-made s l head q i full empty d d₁ d₂ t t₁ t₂ f e a b = rw (b, a, f, e)
 
-module _ (s : List ℕ) (n k : ℕ) (h q : List Float) where
-  pub tanks-none : (t : Tanks) → t ≡ tankUpdates s n k h q 0 t
+module _ (s : List ℕ) (l : Layout) (h q : List Float) where
+  pub tanks-none : (t : Tanks) → t ≡ tankUpdates s l h q 0 t
   unfolding tankUpdates
   tanks-none t = refl
 
-  pub tanks-here : (i : ℕ) (t₀ t : Tanks) (d d₁ : List Float) (c c₁ : List ℕ) (b : Bool) → t ≡ tankUpdates s n k h q i t₀ → b ≡ tankAt s i → b ≡ true
-      → tanks d c ≡ tankUpdate s n k (getD h i nan) q i t → d₁ ≡ d → c₁ ≡ c → tanks d₁ c₁ ≡ tankUpdates s n k h q (i + 1) t₀
+  pub tanks-here : (i : ℕ) (t₀ t : Tanks) (d d₁ : List Float) (c c₁ : List ℕ) (b : Bool) → t ≡ tankUpdates s l h q i t₀ → b ≡ tankAt s l i → b ≡ true
+      → tanks d c ≡ tankUpdate s l (getD h i nan) q i t → d₁ ≡ d → c₁ ≡ c → tanks d₁ c₁ ≡ tankUpdates s l h q (i + 1) t₀
   unfolding tankUpdates
   tanks-here i t₀ t d d₁ c c₁ b e a y p r w = rw (add-one i, sym a ∙ y, ← e, r, w) p
 
-  pub tanks-other : (i : ℕ) (t₀ : Tanks) (d d₁ : List Float) (t t₁ : List ℕ) (b : Bool) → tanks d t ≡ tankUpdates s n k h q i t₀ → b ≡ tankAt s i → b ≡ false → d₁ ≡ d → t₁ ≡ t → tanks d₁ t₁ ≡ tankUpdates s n k h q (i + 1) t₀
+  pub tanks-other : (i : ℕ) (t₀ : Tanks) (d d₁ : List Float) (t t₁ : List ℕ) (b : Bool) → tanks d t ≡ tankUpdates s l h q i t₀ → b ≡ tankAt s l i → b ≡ false → d₁ ≡ d → t₁ ≡ t → tanks d₁ t₁ ≡ tankUpdates s l h q (i + 1) t₀
   unfolding tankUpdates
   tanks-other i t₀ d d₁ t t₁ b e a y p r = rw (add-one i, sym a ∙ y, p, r) e
 
-  pub tanks-all : (d : List Float) (c : List ℕ) (i : ℕ) (t : Tanks) → t ≡ tankUpdates s n k h q i (tanks d c) → i ≡ n → t ≡ tankLinksOf s n k h q d c
+  pub tanks-all : (d : List Float) (c : List ℕ) (i : ℕ) (t : Tanks) → t ≡ tankUpdates s l h q i (tanks d c) → i ≡ l .nodes → t ≡ tankLinksOf s l h q d c
   unfolding tankLinksOf
   tanks-all d c i t e y = rw (e, y)

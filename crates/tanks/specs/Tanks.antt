@@ -5,22 +5,19 @@ use mathlib.Core.List.{List}
 use lib.Dec.{eqb}
 use lib.ListN.{getD, set}
 use lib.Ieee.{Float, nan, lt, le}
-use Rattle.records.specs.Offsets.{nodeOffset, linkOffset}
-use Rattle.records.specs.Records.{byteAt, shortAt, nodeAt}
+use Rattle.layout.specs.declared.places.Layout.{Layout}
+use Rattle.nodes.specs.Nodes.{nodeOf, tankAt}
+use Rattle.links.specs.Links.{linkStart, linkEnd}
 use Rattle.constants.specs.Arithmetic.{plus}
 use Rattle.constants.specs.Constants as constant
 use Rattle.columns.specs.Columns.{addTo, takeFrom}
 
--- node i is a tank
-unfoldable pub tankAt : List ℕ → ℕ → Bool
-tankAt s i = eqb (byteAt s (nodeOffset i + 2)) 2
+-- at this head node i is full and does not spill, or it is empty
+unfoldable pub fullAt : List ℕ → Layout → ℕ → Float → Bool
+fullAt s l i head = le (plus (nodeOf s l i .elevation) (nodeOf s l i .highest)) head && not (nodeOf s l i .overflow)
 
--- at this head it is full and does not spill, or it is empty
-unfoldable pub fullAt : List ℕ → ℕ → Float → Bool
-fullAt s i head = le (plus (nodeAt s (nodeOffset i) .elevation) (nodeAt s (nodeOffset i) .highest)) head && not (nodeAt s (nodeOffset i) .overflow)
-
-unfoldable pub emptyAt : List ℕ → ℕ → Float → Bool
-emptyAt s i head = le head (plus (nodeAt s (nodeOffset i) .elevation) (nodeAt s (nodeOffset i) .lowest))
+unfoldable pub emptyAt : List ℕ → Layout → ℕ → Float → Bool
+emptyAt s l i head = le head (plus (nodeOf s l i .elevation) (nodeOf s l i .lowest))
 
 -- the demands and the status codes as they stand
 pub record Tanks : Type 0 where
@@ -34,41 +31,41 @@ tanks d t = record { demands = d; codes = t }
 unfoldable pub shut : Bool → Bool → Float → ℕ → List ℕ → List ℕ
 shut above below q j codes = cond ((above && lt constant.zero q) || (below && lt q constant.zero)) (set codes j 3) codes
 
--- the links that end at tank i, among the first j behind n nodes: each adds its flow
-unfoldable pub linksTo : List ℕ → ℕ → ℕ → List Float → Bool → Bool → ℕ → Tanks → Tanks
+-- the links that end at tank i, among the first j: each adds its flow
+unfoldable pub linksTo : List ℕ → Layout → ℕ → List Float → Bool → Bool → ℕ → Tanks → Tanks
 unfolding shut addTo
-linksTo s n i q full empty zero t = t
-linksTo s n i q full empty (suc j) t =
-    let u = linksTo s n i q full empty j t in
-    cond (eqb (shortAt s (linkOffset n j + 7)) i)
+linksTo s l i q full empty zero t = t
+linksTo s l i q full empty (suc j) t =
+    let u = linksTo s l i q full empty j t in
+    cond (eqb (linkEnd s l j) i)
     (tanks (addTo (u .demands) i (getD q j nan)) (shut full empty (getD q j nan) j (u .codes))) u
 
 -- and those that start there: each takes it
-unfoldable pub linksFrom : List ℕ → ℕ → ℕ → List Float → Bool → Bool → ℕ → Tanks → Tanks
+unfoldable pub linksFrom : List ℕ → Layout → ℕ → List Float → Bool → Bool → ℕ → Tanks → Tanks
 unfolding shut takeFrom
-linksFrom s n i q full empty zero t = t
-linksFrom s n i q full empty (suc j) t =
-    let u = linksFrom s n i q full empty j t in
-    cond (eqb (shortAt s (linkOffset n j + 5)) i)
+linksFrom s l i q full empty zero t = t
+linksFrom s l i q full empty (suc j) t =
+    let u = linksFrom s l i q full empty j t in
+    cond (eqb (linkStart s l j) i)
     (tanks (takeFrom (u .demands) i (getD q j nan)) (shut empty full (getD q j nan) j (u .codes))) u
 
--- tank i, of n nodes and k links, at its head
-unfoldable pub tankUpdate : List ℕ → ℕ → ℕ → Float → List Float → ℕ → Tanks → Tanks
+-- tank i at its head
+unfoldable pub tankUpdate : List ℕ → Layout → Float → List Float → ℕ → Tanks → Tanks
 unfolding fullAt emptyAt linksTo linksFrom
-tankUpdate s n k head q i t =
-    let full = fullAt s i head in
-    let empty = emptyAt s i head in
-    linksFrom s n i q full empty k (linksTo s n i q full empty k (tanks (set (t .demands) i constant.zero) (t .codes)))
+tankUpdate s l head q i t =
+    let full = fullAt s l i head in
+    let empty = emptyAt s l i head in
+    linksFrom s l i q full empty (l .links) (linksTo s l i q full empty (l .links) (tanks (set (t .demands) i constant.zero) (t .codes)))
 
 -- the tanks among the first i nodes
-unfoldable pub tankUpdates : List ℕ → ℕ → ℕ → List Float → List Float → ℕ → Tanks → Tanks
+unfoldable pub tankUpdates : List ℕ → Layout → List Float → List Float → ℕ → Tanks → Tanks
 unfolding tankAt tankUpdate
-tankUpdates s n k h q zero t = t
-tankUpdates s n k h q (suc i) t =
-    let u = tankUpdates s n k h q i t in
-    cond (tankAt s i) (tankUpdate s n k (getD h i nan) q i u) u
+tankUpdates s l h q zero t = t
+tankUpdates s l h q (suc i) t =
+    let u = tankUpdates s l h q i t in
+    cond (tankAt s l i) (tankUpdate s l (getD h i nan) q i u) u
 
 -- all of them
-unfoldable pub tankLinksOf : List ℕ → ℕ → ℕ → List Float → List Float → List Float → List ℕ → Tanks
+unfoldable pub tankLinksOf : List ℕ → Layout → List Float → List Float → List Float → List ℕ → Tanks
 unfolding tankUpdates
-tankLinksOf s n k h q demands codes = tankUpdates s n k h q n (tanks demands codes)
+tankLinksOf s l h q demands codes = tankUpdates s l h q (l .nodes) (tanks demands codes)

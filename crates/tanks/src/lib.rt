@@ -1,41 +1,35 @@
 // hydraulicsolver.rs `update_tank_links`: the links at tanks, shut by the tank's level; a tank's demand is its net inflow.
 ghost use mathlib.Core.Path.{_≡_};
-ghost use Prim.Native.Nat.{_<_, _≤_, _+_};
+ghost use Prim.Native.Nat.{_<_, _≤_};
 ghost use lib.ListN.{length};
-ghost use Rattle.records.specs.Offsets.{nodeOffset, linkOffset};
-ghost use Rattle.tanks.specs.Tanks.{tanks, tankAt, fullAt, emptyAt, shut, linksTo, linksFrom, tankUpdate, tankUpdates, tankLinksOf};
+ghost use Rattle.layout.specs.Places.{Laid};
+ghost use Rattle.tanks.specs.Tanks.{tanks, fullAt, emptyAt, shut, linksTo, linksFrom, tankUpdate, tankUpdates, tankLinksOf};
 use columns::add_to;
 use columns::take_from;
-use records::link_offset;
-use records::node_at;
-use records::node_offset;
-use records::short;
-
-const TANK: u8 = 2;
+use layout::Layout;
+use links::link_end;
+use links::link_start;
+use nodes::is_tank;
+use nodes::node;
 
 const TEMP_CLOSED: u8 = 3;
 
-fn is_tank(sheet: &[u8], i: usize) -> bool
-    requires { ⌜ nodeOffset (i + 1) ≤ length (now sheet) ⌝ }
-    ensures { λ r. ⌜ r ≡ tankAt (now (sheet .entry)) i ⌝ }
-{
-    sheet[node_offset(i) + 2] == TANK
-}
-
 // At this head the tank is full, and does not spill.
-fn is_full(sheet: &[u8], i: usize, head: f64) -> bool
-    requires { ⌜ nodeOffset (i + 1) ≤ length (now sheet) ⌝ }
-    ensures { λ r. ⌜ r ≡ fullAt (now (sheet .entry)) i head ⌝ }
+fn is_full(sheet: &[u8], l: Layout, i: usize, head: f64) -> bool
+    requires { ⌜ Laid l (now sheet) ⌝ }
+    requires { ⌜ i < l .nodes ⌝ }
+    ensures { λ r. ⌜ r ≡ fullAt (now (sheet .entry)) l i head ⌝ }
 {
-    let tank = node_at(sheet, node_offset(i));
+    let tank = node(sheet, l, i);
     (head >= tank.elevation + tank.highest) & !tank.overflow
 }
 
-fn is_empty(sheet: &[u8], i: usize, head: f64) -> bool
-    requires { ⌜ nodeOffset (i + 1) ≤ length (now sheet) ⌝ }
-    ensures { λ r. ⌜ r ≡ emptyAt (now (sheet .entry)) i head ⌝ }
+fn is_empty(sheet: &[u8], l: Layout, i: usize, head: f64) -> bool
+    requires { ⌜ Laid l (now sheet) ⌝ }
+    requires { ⌜ i < l .nodes ⌝ }
+    ensures { λ r. ⌜ r ≡ emptyAt (now (sheet .entry)) l i head ⌝ }
 {
-    let tank = node_at(sheet, node_offset(i));
+    let tank = node(sheet, l, i);
     head <= tank.elevation + tank.lowest
 }
 
@@ -52,8 +46,7 @@ fn shut_link(above: bool, below: bool, q: f64, j: usize, statuses: &mut [u8])
 // The links that end at tank i: each adds its flow.
 fn links_to(
     sheet: &[u8],
-    nodes: usize,
-    links: usize,
+    l: Layout,
     i: usize,
     full: bool,
     empty: bool,
@@ -61,11 +54,12 @@ fn links_to(
     demands: &mut [f64],
     statuses: &mut [u8],
 )
-    requires { ⌜ (linkOffset nodes links ≤ length (now sheet)) × ((i < length (now demands)) × ((links ≤ length (now flows)) × (links ≤ length (now statuses)))) ⌝ }
-    ensures { λ _. ⌜ tanks (now (demands .exit)) (now (statuses .exit)) ≡ linksTo (now (sheet .entry)) nodes i (now (flows .entry)) full empty links (tanks (now (demands .entry)) (now (statuses .entry))) ⌝ }
+    requires { ⌜ Laid l (now sheet) ⌝ }
+    requires { ⌜ (i < length (now demands)) × ((l .links ≤ length (now flows)) × (l .links ≤ length (now statuses))) ⌝ }
+    ensures { λ _. ⌜ tanks (now (demands .exit)) (now (statuses .exit)) ≡ linksTo (now (sheet .entry)) l i (now (flows .entry)) full empty (l .links) (tanks (now (demands .entry)) (now (statuses .entry))) ⌝ }
 {
-    for j in 0..links {
-        if short(sheet, link_offset(nodes, j) + 7) == i {
+    for j in 0..l.links {
+        if link_end(sheet, l, j) == i {
             add_to(demands, i, flows[j]);
             shut_link(full, empty, flows[j], j, statuses);
         }
@@ -75,8 +69,7 @@ fn links_to(
 // The links that start at tank i: each takes its flow.
 fn links_from(
     sheet: &[u8],
-    nodes: usize,
-    links: usize,
+    l: Layout,
     i: usize,
     full: bool,
     empty: bool,
@@ -84,11 +77,12 @@ fn links_from(
     demands: &mut [f64],
     statuses: &mut [u8],
 )
-    requires { ⌜ (linkOffset nodes links ≤ length (now sheet)) × ((i < length (now demands)) × ((links ≤ length (now flows)) × (links ≤ length (now statuses)))) ⌝ }
-    ensures { λ _. ⌜ tanks (now (demands .exit)) (now (statuses .exit)) ≡ linksFrom (now (sheet .entry)) nodes i (now (flows .entry)) full empty links (tanks (now (demands .entry)) (now (statuses .entry))) ⌝ }
+    requires { ⌜ Laid l (now sheet) ⌝ }
+    requires { ⌜ (i < length (now demands)) × ((l .links ≤ length (now flows)) × (l .links ≤ length (now statuses))) ⌝ }
+    ensures { λ _. ⌜ tanks (now (demands .exit)) (now (statuses .exit)) ≡ linksFrom (now (sheet .entry)) l i (now (flows .entry)) full empty (l .links) (tanks (now (demands .entry)) (now (statuses .entry))) ⌝ }
 {
-    for j in 0..links {
-        if short(sheet, link_offset(nodes, j) + 5) == i {
+    for j in 0..l.links {
+        if link_start(sheet, l, j) == i {
             take_from(demands, i, flows[j]);
             shut_link(empty, full, flows[j], j, statuses);
         }
@@ -98,60 +92,40 @@ fn links_from(
 // One tank, at its head.
 fn update_tank(
     sheet: &[u8],
-    nodes: usize,
-    links: usize,
+    l: Layout,
     i: usize,
     head: f64,
     flows: &[f64],
     demands: &mut [f64],
     statuses: &mut [u8],
 )
-    requires { ⌜ (linkOffset nodes links ≤ length (now sheet)) × ((i < nodes) × ((nodes ≤ length (now demands)) × ((links ≤ length (now flows)) × (links ≤ length (now statuses))))) ⌝ }
-    ensures { λ _. ⌜ tanks (now (demands .exit)) (now (statuses .exit)) ≡ tankUpdate (now (sheet .entry)) nodes links head (now (flows .entry)) i (tanks (now (demands .entry)) (now (statuses .entry))) ⌝ }
+    requires { ⌜ Laid l (now sheet) ⌝ }
+    requires { ⌜ (i < l .nodes) × ((l .nodes ≤ length (now demands)) × ((l .links ≤ length (now flows)) × (l .links ≤ length (now statuses)))) ⌝ }
+    ensures { λ _. ⌜ tanks (now (demands .exit)) (now (statuses .exit)) ≡ tankUpdate (now (sheet .entry)) l head (now (flows .entry)) i (tanks (now (demands .entry)) (now (statuses .entry))) ⌝ }
 {
-    let full = is_full(sheet, i, head);
-    let empty = is_empty(sheet, i, head);
+    let full = is_full(sheet, l, i, head);
+    let empty = is_empty(sheet, l, i, head);
     demands[i] = 0.0;
-    links_to(
-        sheet,
-        nodes,
-        links,
-        i,
-        full,
-        empty,
-        flows,
-        demands,
-        statuses,
-    );
-    links_from(
-        sheet,
-        nodes,
-        links,
-        i,
-        full,
-        empty,
-        flows,
-        demands,
-        statuses,
-    );
+    links_to(sheet, l, i, full, empty, flows, demands, statuses);
+    links_from(sheet, l, i, full, empty, flows, demands, statuses);
 }
 
 // All tanks in node order. A link that a tank shuts is no status change.
 pub fn tank_links(
     sheet: &[u8],
-    nodes: usize,
-    links: usize,
+    l: Layout,
     heads: &[f64],
     flows: &[f64],
     demands: &mut [f64],
     statuses: &mut [u8],
 )
-    requires { ⌜ (linkOffset nodes links ≤ length (now sheet)) × ((nodes ≤ length (now heads)) × ((nodes ≤ length (now demands)) × ((links ≤ length (now flows)) × (links ≤ length (now statuses))))) ⌝ }
-    ensures { λ _. ⌜ tanks (now (demands .exit)) (now (statuses .exit)) ≡ tankLinksOf (now (sheet .entry)) nodes links (now (heads .entry)) (now (flows .entry)) (now (demands .entry)) (now (statuses .entry)) ⌝ }
+    requires { ⌜ Laid l (now sheet) ⌝ }
+    requires { ⌜ (l .nodes ≤ length (now heads)) × ((l .nodes ≤ length (now demands)) × ((l .links ≤ length (now flows)) × (l .links ≤ length (now statuses)))) ⌝ }
+    ensures { λ _. ⌜ tanks (now (demands .exit)) (now (statuses .exit)) ≡ tankLinksOf (now (sheet .entry)) l (now (heads .entry)) (now (flows .entry)) (now (demands .entry)) (now (statuses .entry)) ⌝ }
 {
-    for i in 0..nodes {
-        if is_tank(sheet, i) {
-            update_tank(sheet, nodes, links, i, heads[i], flows, demands, statuses);
+    for i in 0..l.nodes {
+        if is_tank(sheet, l, i) {
+            update_tank(sheet, l, i, heads[i], flows, demands, statuses);
         }
     }
 }

@@ -8,20 +8,19 @@ use native.Mathlib.Omega.{arith}
 use lib.ListN.{length, getD, set}
 use lib.Ieee.{Float, nan, lt}
 use Rattle.float.specs.Sign.{absOf}
-use Rattle.records.specs.Offsets.{linkOffset}
-use Rattle.records.specs.Records.{linkAt}
+use Rattle.layout.specs.declared.places.Layout.{Layout}
 use Rattle.codes.specs.Codes.{statusOf, statusCode}
 use Rattle.codes.specs.declared.Status.{Status}
 use Rattle.records.specs.declared.records.Link.{Link}
-use Rattle.sheet.specs.Ends.{EndsBelow}
+use Rattle.links.specs.Links.{linkOf}
 use Rattle.constants.specs.Arithmetic.{plus, minus}
 use Rattle.constants.specs.Constants as constant
 use Rattle.status.specs.Rules.{updatedOf}
 use Rattle.status.specs.declared.Change.{Change}
 use Rattle.status.specs.declared.Change.the-variants.{Stays, Becomes}
-use Rattle.nodes.specs.Fields.{enabled, elevationOf}
+use Rattle.nodes.specs.Nodes.{enabled, elevationOf}
 use Rattle.update.specs.declared.Stats.{Stats}
-use Rattle.update.specs.Update.{still, noted, counts, recoded, Stepping, stepping, Step, flowChange, changeAt, moved, linkMoved, linkUpdate, linkUpdates, updateOf}
+use Rattle.update.specs.Update.{still, noted, counts, recoded, Stepping, stepping, Basis, flowChange, changeAt, linkSet, linkMoved, linkUpdate, linkUpdates, updateOf}
 
 -- ---- one link
 
@@ -45,70 +44,54 @@ pub recoded-same : (codes : List ℕ) (i : ℕ) (change : Change) → change ≡
 unfolding recoded
 recoded-same codes i change h = rw h
 
-pub change-of : (s : List ℕ) (heads : List Float) (l : Link) (code : ℕ) (q : Float) (status : Status) (up down : Float) (r : Change)
-    → up ≡ elevationOf s (l .start) → down ≡ elevationOf s (l .end) → status ≡ statusOf code
-    → r ≡ updatedOf (l .kind) status (l .setting) q (getD heads (l .start) nan) (getD heads (l .end) nan) up down
-    → r ≡ changeAt s heads l code q
+pub change-of : (s : List ℕ) (l : Layout) (heads : List Float) (k : Link) (code : ℕ) (q : Float) (status : Status) (up down : Float) (r : Change)
+    → up ≡ elevationOf s l (k .start) → down ≡ elevationOf s l (k .end) → status ≡ statusOf code
+    → r ≡ updatedOf (k .kind) status (k .setting) q (getD heads (k .start) nan) (getD heads (k .end) nan) up down
+    → r ≡ changeAt s l heads k code q
 unfolding changeAt
-change-of s heads l code q status up down r a b d h = rw (h, a, b, d)
+change-of s l heads k code q status up down r a b d h = rw (h, a, b, d)
 
-pub moved-of : (s : List ℕ) (p : Step) (l : Link) (i : ℕ) (flows : List Float) (codes codes₁ : List ℕ) (stats stats₁ : Stats) (dq : Float) (change : Change) (old : Status) (changes : Bool)
-    → dq ≡ flowChange p l i
-    → change ≡ changeAt s (p .heads) l (getD codes i 0) (minus (getD flows i nan) dq)
-    → codes₁ ≡ recoded codes i change
-    → old ≡ statusOf (getD codes i 0)
+pub moved-of : (s : List ℕ) (l : Layout) (b : Basis) (k : Link) (j : ℕ) (flows : List Float) (codes codes₁ : List ℕ) (stats stats₁ : Stats) (dq : Float) (change : Change) (old : Status) (changes : Bool)
+    → dq ≡ flowChange b k j
+    → change ≡ changeAt s l (b .heads) k (getD codes j 0) (minus (getD flows j nan) dq)
+    → codes₁ ≡ recoded codes j change
+    → old ≡ statusOf (getD codes j 0)
     → changes ≡ counts old change
-    → stats₁ ≡ noted dq (minus (getD flows i nan) dq) changes stats
-    → stepping (set flows i (minus (getD flows i nan) dq)) codes₁ stats₁ ≡ linkMoved s p l i (stepping flows codes stats)
-unfolding linkMoved moved
-moved-of s p l i flows codes codes₁ stats stats₁ dq change old changes a b d e f g = rw (g, f, e, d, b, a)
+    → stats₁ ≡ noted dq (minus (getD flows j nan) dq) changes stats
+    → stepping (set flows j (minus (getD flows j nan) dq)) codes₁ stats₁ ≡ linkMoved s l b k j (stepping flows codes stats)
+unfolding linkMoved linkSet
+moved-of s l b k j flows codes codes₁ stats stats₁ dq change old changes c d e f g h = rw (h, g, f, e, d, c)
 
--- the ends of a link that was read are nodes
-module _ (s : List ℕ) (n i at : ℕ) (l : Link) (ends : EndsBelow n (i + 1) s) (here : at ≡ linkOffset n i) (read : l ≡ linkAt s at) where
-  pub start-below : l .start < n
-  unfolding linkAt
-  start-below = rw (read, here) (ends .start i (omega arith))
-
-  pub end-below : l .end < n
-  unfolding linkAt
-  end-below = rw (read, here) (ends .end i (omega arith))
-
-module _ (s : List ℕ) (p : Step) (n i at : ℕ) (l : Link) (here : at ≡ linkOffset n i) (read : l ≡ linkAt s at) (a b : Bool) (ha : a ≡ enabled s (l .start)) (hb : b ≡ enabled s (l .end)) (t : Stepping) where
-  pub link-in : (t₁ : Stepping) → (a && b) ≡ true → t₁ ≡ linkMoved s p l i t → t₁ ≡ linkUpdate s p (linkAt s (linkOffset n i)) i t
+module _ (s : List ℕ) (l : Layout) (b : Basis) (j : ℕ) (k : Link) (read : k ≡ linkOf s l j) (m n : Bool) (hm : m ≡ enabled s l (k .start)) (hn : n ≡ enabled s l (k .end)) (w : Stepping) where
+  pub link-in : (w₁ : Stepping) → (m && n) ≡ true → w₁ ≡ linkMoved s l b k j w → w₁ ≡ linkUpdate s l b (linkOf s l j) j w
   unfolding linkUpdate
-  link-in t₁ h e =
-      let w : linkAt s (linkOffset n i) ≡ l = sym (read ∙ ap (linkAt s) here) in
-      let on : (enabled s (l .start) && enabled s (l .end)) ≡ true = rw (← ha, ← hb) h in
-      rw (w, on) e
+  link-in w₁ h e =
+      let on : (enabled s l (k .start) && enabled s l (k .end)) ≡ true = rw (← hm, ← hn) h in
+      rw (← read, on) e
 
-  pub link-out : (a && b) ≡ false → stepping (set (t .flows) i constant.zero) (t .codes) (t .stats) ≡ linkUpdate s p (linkAt s (linkOffset n i)) i t
+  pub link-out : (m && n) ≡ false → stepping (set (w .flows) j constant.zero) (w .codes) (w .stats) ≡ linkUpdate s l b (linkOf s l j) j w
   unfolding linkUpdate
   link-out h =
-      let w : linkAt s (linkOffset n i) ≡ l = sym (read ∙ ap (linkAt s) here) in
-      let off : (enabled s (l .start) && enabled s (l .end)) ≡ false = rw (← ha, ← hb) h in
-      rw (w, off)
+      let off : (enabled s l (k .start) && enabled s l (k .end)) ≡ false = rw (← hm, ← hn) h in
+      rw (← read, off)
 
 -- ---- all links
 
--- fewer links ask less
-pub ends-less : {n k : ℕ} {s : List ℕ} → EndsBelow n k s → (i : ℕ) → i < k → EndsBelow n (i + 1) s
-ends-less d i h = record { start = λ j l. d .start j (omega arith); end = λ j l. d .end j (omega arith) }
-
--- the loop over k links after i of them, with the columns as they are and as they were
-pub record Updated (s : List ℕ) (n k : ℕ) (p : Step) (q₀ : List Float) (t₀ : List ℕ) (q : List Float) (t : List ℕ) (stats : Stats) (i : ℕ) : Type 0 where
-  pub upto : i ≤ k
-  pub made : stepping q t stats ≡ linkUpdates s n p i (stepping q₀ t₀ still)
+-- the loop over the links after j of them, with the columns as they are and as they were
+pub record Updated (s : List ℕ) (l : Layout) (b : Basis) (q₀ : List Float) (c₀ : List ℕ) (q : List Float) (c : List ℕ) (stats : Stats) (j : ℕ) : Type 0 where
+  pub upto : j ≤ l .links
+  pub made : stepping q c stats ≡ linkUpdates s l b j (stepping q₀ c₀ still)
   pub q-long : length q ≡ length q₀
-  pub t-long : length t ≡ length t₀
+  pub c-long : length c ≡ length c₀
 
-pub updates-none : (s : List ℕ) (n : ℕ) (p : Step) (t : Stepping) → t ≡ linkUpdates s n p 0 t
+pub updates-none : (s : List ℕ) (l : Layout) (b : Basis) (w : Stepping) → w ≡ linkUpdates s l b 0 w
 unfolding linkUpdates
-updates-none s n p t = refl
+updates-none s l b w = refl
 
-pub updates-next : (s : List ℕ) (n : ℕ) (p : Step) (i : ℕ) (t₀ t t₁ : Stepping) → t ≡ linkUpdates s n p i t₀ → t₁ ≡ linkUpdate s p (linkAt s (linkOffset n i)) i t → t₁ ≡ linkUpdates s n p (i + 1) t₀
+pub updates-next : (s : List ℕ) (l : Layout) (b : Basis) (j : ℕ) (w₀ w w₁ : Stepping) → w ≡ linkUpdates s l b j w₀ → w₁ ≡ linkUpdate s l b (linkOf s l j) j w → w₁ ≡ linkUpdates s l b (j + 1) w₀
 unfolding linkUpdates
-updates-next s n p i t₀ t t₁ h e = rw (add-one i, e, h)
+updates-next s l b j w₀ w w₁ h e = rw (add-one j, e, h)
 
-pub updates-all : (s : List ℕ) (n k : ℕ) (p : Step) (q : List Float) (c : List ℕ) (i : ℕ) (t : Stepping) → t ≡ linkUpdates s n p i (stepping q c still) → i ≡ k → t ≡ updateOf s n k p q c
+pub updates-all : (s : List ℕ) (l : Layout) (b : Basis) (q : List Float) (c : List ℕ) (j : ℕ) (w : Stepping) → w ≡ linkUpdates s l b j (stepping q c still) → j ≡ l .links → w ≡ updateOf s l b q c
 unfolding updateOf
-updates-all s n k p q c i t h e = rw (h, e)
+updates-all s l b q c j w h e = rw (h, e)

@@ -5,8 +5,8 @@ use mathlib.Core.List.{List}
 use lib.ListN.{getD, set}
 use lib.Ieee.{Float, nan, lt}
 use Rattle.float.specs.Sign.{absOf}
-use Rattle.records.specs.Offsets.{linkOffset}
-use Rattle.records.specs.Records.{linkAt}
+use Rattle.layout.specs.declared.places.Layout.{Layout}
+use Rattle.links.specs.Links.{linkOf}
 use Rattle.codes.specs.Codes.{statusOf, statusCode}
 use Rattle.codes.specs.declared.Status.{Status}
 use Rattle.codes.specs.declared.Status.the-variants.{Closed, Open, Active, TempClosed, FixedClosed, FixedOpen, XPressure, Xhead}
@@ -16,7 +16,7 @@ use Rattle.constants.specs.Constants as constant
 use Rattle.status.specs.Rules.{updatedOf}
 use Rattle.status.specs.declared.Change.{Change}
 use Rattle.status.specs.declared.Change.the-variants.{Stays, Becomes}
-use Rattle.nodes.specs.Fields.{enabled, elevationOf}
+use Rattle.nodes.specs.Nodes.{enabled, elevationOf}
 use Rattle.update.specs.declared.Stats.{Stats}
 
 -- nothing moved yet
@@ -26,12 +26,12 @@ still = record { moved = constant.zero; total = constant.zero; largest = constan
 -- a flow change, the flow after it, and whether a status change counts, taken into the statistics
 unfoldable pub noted : Float → Float → Bool → Stats → Stats
 unfolding absOf
-noted dq q changes t =
+noted dq q changes m =
     record {
-      moved = plus (t .moved) (absOf dq);
-      total = plus (t .total) (absOf q);
-      largest = cond (lt (t .largest) (absOf dq)) (absOf dq) (t .largest);
-      changed = t .changed || changes;
+      moved = plus (m .moved) (absOf dq);
+      total = plus (m .total) (absOf q);
+      largest = cond (lt (m .largest) (absOf dq)) (absOf dq) (m .largest);
+      changed = m .changed || changes;
     }
 
 -- a new status counts unless it left TempClosed or Xhead
@@ -62,59 +62,59 @@ pub record Stepping : Type 0 where
   pub stats : Stats
 
 abbrev pub stepping : List Float → List ℕ → Stats → Stepping
-stepping q t stats = record { flows = q; codes = t; stats = stats }
+stepping q c m = record { flows = q; codes = c; stats = m }
 
--- what a step is taken with: the heads, the links' g and y, and the damping factor
-pub record Step : Type 0 where
+-- what the links are moved by: the heads, the links' g and y, and the damping factor
+pub record Basis : Type 0 where
   pub heads : List Float
   pub g : List Float
   pub y : List Float
   pub factor : Float
 
-abbrev pub step : List Float → List Float → List Float → Float → Step
-step h g y factor = record { heads = h; g = g; y = y; factor = factor }
+abbrev pub basis : List Float → List Float → List Float → Float → Basis
+basis h g y factor = record { heads = h; g = g; y = y; factor = factor }
 
--- the flow change of link i, which is l: the factor times (y less g times the fall of the head)
-unfoldable pub flowChange : Step → Link → ℕ → Float
-flowChange p l i =
-    times (p .factor) (minus (getD (p .y) i nan) (times (getD (p .g) i nan) (minus (getD (p .heads) (l .start) nan) (getD (p .heads) (l .end) nan))))
+-- the flow change of link j, which is k: the factor times (y less g times the fall of the head)
+unfoldable pub flowChange : Basis → Link → ℕ → Float
+flowChange b k j =
+    times (b .factor) (minus (getD (b .y) j nan) (times (getD (b .g) j nan) (minus (getD (b .heads) (k .start) nan) (getD (b .heads) (k .end) nan))))
 
 -- the change of its status at its new flow q
-unfoldable pub changeAt : List ℕ → List Float → Link → ℕ → Float → Change
+unfoldable pub changeAt : List ℕ → Layout → List Float → Link → ℕ → Float → Change
 unfolding elevationOf
-changeAt s heads l code q =
-    updatedOf (l .kind) (statusOf code) (l .setting) q
-    (getD heads (l .start) nan) (getD heads (l .end) nan)
-    (elevationOf s (l .start)) (elevationOf s (l .end))
+changeAt s l h k code q =
+    updatedOf (k .kind) (statusOf code) (k .setting) q
+    (getD h (k .start) nan) (getD h (k .end) nan)
+    (elevationOf s l (k .start)) (elevationOf s l (k .end))
 
--- link i in service, with its code, its flow change, its new flow and the change of its status
-unfoldable pub moved : ℕ → ℕ → Float → Float → Change → Stepping → Stepping
+-- link j in service, with its code, its flow change, its new flow and the change of its status
+unfoldable pub linkSet : ℕ → ℕ → Float → Float → Change → Stepping → Stepping
 unfolding noted counts recoded
-moved i code dq q change t =
-    record { flows = set (t .flows) i q; codes = recoded (t .codes) i change; stats = noted dq q (counts (statusOf code) change) (t .stats) }
+linkSet j code dq q change w =
+    record { flows = set (w .flows) j q; codes = recoded (w .codes) j change; stats = noted dq q (counts (statusOf code) change) (w .stats) }
 
-unfoldable pub linkMoved : List ℕ → Step → Link → ℕ → Stepping → Stepping
-unfolding flowChange changeAt moved
-linkMoved s p l i t =
-    let dq = flowChange p l i in
-    let q = minus (getD (t .flows) i nan) dq in
-    let code = getD (t .codes) i 0 in
-    moved i code dq q (changeAt s (p .heads) l code q) t
+unfoldable pub linkMoved : List ℕ → Layout → Basis → Link → ℕ → Stepping → Stepping
+unfolding flowChange changeAt linkSet
+linkMoved s l b k j w =
+    let dq = flowChange b k j in
+    let q = minus (getD (w .flows) j nan) dq in
+    let code = getD (w .codes) j 0 in
+    linkSet j code dq q (changeAt s l (b .heads) k code q) w
 
 -- a link with a disabled end gets flow +0.0 and nothing else
-unfoldable pub linkUpdate : List ℕ → Step → Link → ℕ → Stepping → Stepping
+unfoldable pub linkUpdate : List ℕ → Layout → Basis → Link → ℕ → Stepping → Stepping
 unfolding linkMoved
-linkUpdate s p l i t =
-    cond (enabled s (l .start) && enabled s (l .end)) (linkMoved s p l i t)
-    (stepping (set (t .flows) i constant.zero) (t .codes) (t .stats))
+linkUpdate s l b k j w =
+    cond (enabled s l (k .start) && enabled s l (k .end)) (linkMoved s l b k j w)
+    (stepping (set (w .flows) j constant.zero) (w .codes) (w .stats))
 
--- the first i links behind n nodes, in order
-unfoldable pub linkUpdates : List ℕ → ℕ → Step → ℕ → Stepping → Stepping
+-- the first j links, in order
+unfoldable pub linkUpdates : List ℕ → Layout → Basis → ℕ → Stepping → Stepping
 unfolding linkUpdate
-linkUpdates s n p zero t = t
-linkUpdates s n p (suc i) t = linkUpdate s p (linkAt s (linkOffset n i)) i (linkUpdates s n p i t)
+linkUpdates s l b zero w = w
+linkUpdates s l b (suc j) w = linkUpdate s l b (linkOf s l j) j (linkUpdates s l b j w)
 
--- all k of them
-unfoldable pub updateOf : List ℕ → ℕ → ℕ → Step → List Float → List ℕ → Stepping
+-- all of them
+unfoldable pub updateOf : List ℕ → Layout → Basis → List Float → List ℕ → Stepping
 unfolding linkUpdates
-updateOf s n k p flows codes = linkUpdates s n p k (stepping flows codes still)
+updateOf s l b q c = linkUpdates s l b (l .links) (stepping q c still)

@@ -1,19 +1,18 @@
 // hydraulicsolver.rs `update_links`: the flows and statuses after the heads, and what moved.
 ghost use mathlib.Core.Path.{_≡_};
-ghost use Prim.Native.Nat.{_<_, _≤_, _+_};
+ghost use Prim.Native.Nat.{_<_, _≤_};
 ghost use lib.ListN.{length};
-ghost use Rattle.records.specs.Offsets.{nodeOffset, linkOffset};
-ghost use Rattle.records.specs.Records.{linkAt};
+ghost use Rattle.layout.specs.Places.{Laid};
 ghost use Rattle.codes.specs.Codes.{statusOf};
-ghost use Rattle.sheet.specs.Ends.{EndsBelow};
-ghost use Rattle.update.specs.Update.{step, stepping, noted, counts, recoded, flowChange, changeAt, linkMoved, linkUpdate, linkUpdates, updateOf};
+ghost use Rattle.links.specs.Links.{EndsIn, linkOf};
+ghost use Rattle.update.specs.Update.{basis, stepping, noted, counts, recoded, flowChange, changeAt, linkMoved, linkUpdate, linkUpdates, updateOf};
 use float::abs;
+use layout::Layout;
+use links::link;
 use nodes::elevation;
 use nodes::is_enabled;
 use records::Link;
 use records::Status;
-use records::link_at;
-use records::link_offset;
 use records::status_code;
 use records::status_of;
 use status::Change;
@@ -57,39 +56,40 @@ fn change_counts(old: Status, change: Change) -> bool
     }
 }
 
-fn recode(statuses: &mut [u8], i: usize, change: Change)
-    requires { ⌜ i < length (now statuses) ⌝ }
-    ensures { λ _. ⌜ now (statuses .exit) ≡ recoded (now (statuses .entry)) i change ⌝ }
+fn recode(statuses: &mut [u8], j: usize, change: Change)
+    requires { ⌜ j < length (now statuses) ⌝ }
+    ensures { λ _. ⌜ now (statuses .exit) ≡ recoded (now (statuses .entry)) j change ⌝ }
 {
     if let Change::Becomes(new) = change {
-        statuses[i] = status_code(new);
+        statuses[j] = status_code(new);
     }
 }
 
-fn flow_change(link: Link, i: usize, heads: &[f64], g: &[f64], y: &[f64], factor: f64) -> f64
-    requires { ⌜ (link .start < length (now heads)) × ((link .end < length (now heads)) × ((i < length (now g)) × (i < length (now y)))) ⌝ }
-    ensures { λ r. ⌜ r ≡ flowChange (step (now (heads .entry)) (now (g .entry)) (now (y .entry)) factor) link i ⌝ }
+fn flow_change(k: Link, j: usize, heads: &[f64], g: &[f64], y: &[f64], factor: f64) -> f64
+    requires { ⌜ (k .start < length (now heads)) × ((k .end < length (now heads)) × ((j < length (now g)) × (j < length (now y)))) ⌝ }
+    ensures { λ r. ⌜ r ≡ flowChange (basis (now (heads .entry)) (now (g .entry)) (now (y .entry)) factor) k j ⌝ }
 {
-    let start = link.start;
-    let end = link.end;
+    let start = k.start;
+    let end = k.end;
     let dh = heads[start] - heads[end];
-    factor * (y[i] - g[i] * dh)
+    factor * (y[j] - g[j] * dh)
 }
 
 // The change of status of a link at its new flow.
-fn change_at(sheet: &[u8], nodes: usize, link: Link, code: u8, q: f64, heads: &[f64]) -> Change
-    requires { ⌜ (nodeOffset nodes ≤ length (now sheet)) × ((nodes ≤ length (now heads)) × ((link .start < nodes) × (link .end < nodes))) ⌝ }
-    ensures { λ r. ⌜ r ≡ changeAt (now (sheet .entry)) (now (heads .entry)) link code q ⌝ }
+fn change_at(sheet: &[u8], l: Layout, k: Link, code: u8, q: f64, heads: &[f64]) -> Change
+    requires { ⌜ Laid l (now sheet) ⌝ }
+    requires { ⌜ (l .nodes ≤ length (now heads)) × ((k .start < l .nodes) × (k .end < l .nodes)) ⌝ }
+    ensures { λ r. ⌜ r ≡ changeAt (now (sheet .entry)) l (now (heads .entry)) k code q ⌝ }
 {
-    let start = link.start;
-    let end = link.end;
-    let up = elevation(sheet, start);
-    let down = elevation(sheet, end);
-    let kind = link.kind;
+    let start = k.start;
+    let end = k.end;
+    let up = elevation(sheet, l, start);
+    let down = elevation(sheet, l, end);
+    let kind = k.kind;
     updated(
         kind,
         status_of(code),
-        link.setting,
+        k.setting,
         q,
         heads[start],
         heads[end],
@@ -101,9 +101,9 @@ fn change_at(sheet: &[u8], nodes: usize, link: Link, code: u8, q: f64, heads: &[
 // A link in service.
 fn move_link(
     sheet: &[u8],
-    nodes: usize,
-    link: Link,
-    i: usize,
+    l: Layout,
+    k: Link,
+    j: usize,
     heads: &[f64],
     g: &[f64],
     y: &[f64],
@@ -112,24 +112,25 @@ fn move_link(
     statuses: &mut [u8],
     stats: Stats,
 ) -> Stats
-    requires { ⌜ (nodeOffset nodes ≤ length (now sheet)) × ((nodes ≤ length (now heads)) × ((link .start < nodes) × (link .end < nodes))) ⌝ }
-    requires { ⌜ (i < length (now g)) × ((i < length (now y)) × ((i < length (now flows)) × (i < length (now statuses)))) ⌝ }
-    ensures { λ r. ⌜ stepping (now (flows .exit)) (now (statuses .exit)) r ≡ linkMoved (now (sheet .entry)) (step (now (heads .entry)) (now (g .entry)) (now (y .entry)) factor) link i (stepping (now (flows .entry)) (now (statuses .entry)) stats) ⌝ }
+    requires { ⌜ Laid l (now sheet) ⌝ }
+    requires { ⌜ (l .nodes ≤ length (now heads)) × ((k .start < l .nodes) × (k .end < l .nodes)) ⌝ }
+    requires { ⌜ (j < length (now g)) × ((j < length (now y)) × ((j < length (now flows)) × (j < length (now statuses)))) ⌝ }
+    ensures { λ r. ⌜ stepping (now (flows .exit)) (now (statuses .exit)) r ≡ linkMoved (now (sheet .entry)) l (basis (now (heads .entry)) (now (g .entry)) (now (y .entry)) factor) k j (stepping (now (flows .entry)) (now (statuses .entry)) stats) ⌝ }
 {
-    let dq = flow_change(link, i, heads, g, y, factor);
-    let q = flows[i] - dq;
-    let code = statuses[i];
-    let change = change_at(sheet, nodes, link, code, q, heads);
-    flows[i] = q;
-    recode(statuses, i, change);
+    let dq = flow_change(k, j, heads, g, y, factor);
+    let q = flows[j] - dq;
+    let code = statuses[j];
+    let change = change_at(sheet, l, k, code, q, heads);
+    flows[j] = q;
+    recode(statuses, j, change);
     note(dq, q, change_counts(status_of(code), change), stats)
 }
 
 // One link; one with a disabled end gets flow 0.0 and nothing else.
 fn update_link(
     sheet: &[u8],
-    nodes: usize,
-    i: usize,
+    l: Layout,
+    j: usize,
     heads: &[f64],
     g: &[f64],
     y: &[f64],
@@ -138,38 +139,26 @@ fn update_link(
     statuses: &mut [u8],
     stats: Stats,
 ) -> Stats
-    requires { ⌜ (linkOffset nodes (i + 1) ≤ length (now sheet)) × (nodes ≤ length (now heads)) ⌝ }
-    requires { ⌜ EndsBelow nodes (i + 1) (now sheet) ⌝ }
-    requires { ⌜ (i < length (now g)) × ((i < length (now y)) × ((i < length (now flows)) × (i < length (now statuses)))) ⌝ }
-    ensures { λ r. ⌜ stepping (now (flows .exit)) (now (statuses .exit)) r ≡ linkUpdate (now (sheet .entry)) (step (now (heads .entry)) (now (g .entry)) (now (y .entry)) factor) (linkAt (now (sheet .entry)) (linkOffset nodes i)) i (stepping (now (flows .entry)) (now (statuses .entry)) stats) ⌝ }
+    requires { ⌜ Laid l (now sheet) ⌝ }
+    requires { ⌜ EndsIn l (now sheet) ⌝ }
+    requires { ⌜ (l .nodes ≤ length (now heads)) × (j < l .links) ⌝ }
+    requires { ⌜ (j < length (now g)) × ((j < length (now y)) × ((j < length (now flows)) × (j < length (now statuses)))) ⌝ }
+    ensures { λ r. ⌜ stepping (now (flows .exit)) (now (statuses .exit)) r ≡ linkUpdate (now (sheet .entry)) l (basis (now (heads .entry)) (now (g .entry)) (now (y .entry)) factor) (linkOf (now (sheet .entry)) l j) j (stepping (now (flows .entry)) (now (statuses .entry)) stats) ⌝ }
 {
-    let link = link_at(sheet, link_offset(nodes, i));
-    let start = link.start;
-    let end = link.end;
-    if is_enabled(sheet, start) & is_enabled(sheet, end) {
-        return move_link(
-            sheet,
-            nodes,
-            link,
-            i,
-            heads,
-            g,
-            y,
-            factor,
-            flows,
-            statuses,
-            stats,
-        );
+    let k = link(sheet, l, j);
+    let start = k.start;
+    let end = k.end;
+    if is_enabled(sheet, l, start) & is_enabled(sheet, l, end) {
+        return move_link(sheet, l, k, j, heads, g, y, factor, flows, statuses, stats);
     }
-    flows[i] = 0.0;
+    flows[j] = 0.0;
     stats
 }
 
 // All links in order.
 pub fn update_links(
     sheet: &[u8],
-    nodes: usize,
-    links: usize,
+    l: Layout,
     heads: &[f64],
     g: &[f64],
     y: &[f64],
@@ -177,10 +166,10 @@ pub fn update_links(
     flows: &mut [f64],
     statuses: &mut [u8],
 ) -> Stats
-    requires { ⌜ (linkOffset nodes links ≤ length (now sheet)) × (nodes ≤ length (now heads)) ⌝ }
-    requires { ⌜ EndsBelow nodes links (now sheet) ⌝ }
-    requires { ⌜ (links ≤ length (now g)) × ((links ≤ length (now y)) × ((links ≤ length (now flows)) × (links ≤ length (now statuses)))) ⌝ }
-    ensures { λ r. ⌜ stepping (now (flows .exit)) (now (statuses .exit)) r ≡ updateOf (now (sheet .entry)) nodes links (step (now (heads .entry)) (now (g .entry)) (now (y .entry)) factor) (now (flows .entry)) (now (statuses .entry)) ⌝ }
+    requires { ⌜ Laid l (now sheet) ⌝ }
+    requires { ⌜ EndsIn l (now sheet) ⌝ }
+    requires { ⌜ (l .nodes ≤ length (now heads)) × ((l .links ≤ length (now g)) × ((l .links ≤ length (now y)) × ((l .links ≤ length (now flows)) × (l .links ≤ length (now statuses))))) ⌝ }
+    ensures { λ r. ⌜ stepping (now (flows .exit)) (now (statuses .exit)) r ≡ updateOf (now (sheet .entry)) l (basis (now (heads .entry)) (now (g .entry)) (now (y .entry)) factor) (now (flows .entry)) (now (statuses .entry)) ⌝ }
 {
     let mut stats = Stats {
         moved: 0.0,
@@ -188,8 +177,8 @@ pub fn update_links(
         largest: 0.0,
         changed: false,
     };
-    for i in 0..links {
-        stats = update_link(sheet, nodes, i, heads, g, y, factor, flows, statuses, stats);
+    for j in 0..l.links {
+        stats = update_link(sheet, l, j, heads, g, y, factor, flows, statuses, stats);
     }
     stats
 }

@@ -8,9 +8,9 @@ use native.Mathlib.Omega.{arith}
 use lib.ListN.{getD}
 use lib.Ieee.{Float, nan}
 use Rattle.float.specs.Order.{wildOf}
-use Rattle.sheet.specs.Read.{orElse}
-use Rattle.sheet.specs.declared.layout.Found.{Found}
-use Rattle.sheet.specs.declared.layout.Found.the-variants.{At, Nothing}
+use Rattle.found.specs.Searches.{orElse}
+use Rattle.found.specs.declared.Found.{Found}
+use Rattle.found.specs.declared.Found.the-variants.{At, Nothing}
 use Rattle.wild.specs.Wild.{wildFrom, firstWild, pastNodes, wildPlace}
 
 -- ---- the loop

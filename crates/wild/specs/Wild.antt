@@ -5,9 +5,9 @@ use mathlib.Core.List.{List}
 use lib.ListN.{getD}
 use lib.Ieee.{Float, nan}
 use Rattle.float.specs.Order.{wildOf}
-use Rattle.sheet.specs.Read.{orElse}
-use Rattle.sheet.specs.declared.layout.Found.{Found}
-use Rattle.sheet.specs.declared.layout.Found.the-variants.{At, Nothing}
+use Rattle.found.specs.Searches.{orElse}
+use Rattle.found.specs.declared.Found.{Found}
+use Rattle.found.specs.declared.Found.the-variants.{At, Nothing}
 
 -- the first wild one of k entries from entry i on
 unfoldable pub wildFrom : List Float → ℕ → ℕ → Found

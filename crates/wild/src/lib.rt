@@ -4,7 +4,7 @@ ghost use Prim.Native.Nat.{_≤_};
 ghost use lib.ListN.{length};
 ghost use Rattle.wild.specs.Wild.{firstWild, wildPlace};
 use float::wild;
-use sheet::Found;
+use found::Found;
 
 // The first of the first entries that is NaN, infinite or at least 2^64 in magnitude.
 fn first_wild(x: &[f64], count: usize) -> Found

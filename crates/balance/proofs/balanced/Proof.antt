@@ -11,7 +11,7 @@ total-supply-requires : tie.Need-total-supply-requires
 total-supply-requires c κs = search needs
 
 returns : tie.Need-returns
-returns c = balance-of _ _ _ _ _ _ _ (c .before .total-demand .ensures) (c .total-supply .ensures)
+returns c = balance-of _ _ _ _ _ _ (c .before .total-demand .ensures) (c .total-supply .ensures)
 
 pub balanced-spec : {M : Type 1} → statement M
 balanced-spec = tie.close (tie.spec total-demand-requires total-supply-requires returns)

@@ -1,42 +1,64 @@
 -- `balance::total_supply` meets its contract. Assumes nothing.
-use Rattle.records.specs.Offsets.{linkOffset}
-use Rattle.records.specs.Records.{shortAt}
 use Rattle.balance.specs.Balance.{supplyOf}
-use Rattle.balance.proofs.Turns.{no-supply, next-supply, end-inside}
+use Rattle.balance.proofs.Turns.{no-supply, next-supply}
+use borrow.Author.Needs.{needs}
 use native.Mathlib.Omega.{arith}
-use Prim.Native.Nat.{ℕ, _+_, _-_, _≤_}
-use mathlib.Core.Path.{_≡_, ap, _∙_}
+use Prim.Native.Nat.{ℕ, suc, _+_, _*_, _-_, _≤_, _<_}
+use mathlib.Core.Path.{_≡_, sym, ap, subst, _∙_}
+use native.Mathlib.Numerals.{add-one}
+use lib.ListN.{length, getD, set, length-set}
 use Rattle.balance.proofs.total_supply.Statement.{statement}
 use Rattle.balance.proofs.total_supply.Tie as tie
+use Rattle.balance.proofs.total_supply.Reads as reads
+use Rattle.balance.proofs.total_supply.Lts as lts
+use Rattle.balance.proofs.supplied.Reads as supplied-reads
+use Rattle.links.proofs.link_end.Reads as link-end-reads
+use Rattle.links.proofs.link_start.Reads as link-start-reads
+use Rattle.nodes.proofs.is_fixed.Reads as is-fixed-reads
 
 abbrev Inv-loop : tie.InvT-loop
-Inv-loop sheet nodes links flows supply₀ i₀ supply i = (i ≤ links) × (supply ≡ supplyOf sheet nodes flows i)
+Inv-loop sheet l flows supply₀ j₀ j-end supply j = (j ≤ l .links) × (supply ≡ supplyOf sheet l flows j)
 
 abbrev μ-loop : tie.MeasureT-loop
-μ-loop sheet nodes links flows supply₀ i₀ supply i = links - i
+μ-loop sheet l flows supply₀ j₀ j-end supply j = l .links - j
 
 loop-holds : tie.Need-loop-holds Inv-loop μ-loop
 loop-holds c = (omega arith, no-supply _ _ _)
 
+link-start-requires : tie.Need-link-start-requires Inv-loop μ-loop
+link-start-requires c κs = (c .before .before .before .before .pre .0, c .loop-test .taken)
+
+link-end-requires : tie.Need-link-end-requires Inv-loop μ-loop
+link-end-requires c κs = (c .before .before .before .before .before .pre .0, c .before .loop-test .taken)
+
 is-fixed-requires : tie.Need-is-fixed-requires Inv-loop μ-loop
 is-fixed-requires c κs =
     let a = c .before in
-    let o = a .before in
-    let t = o .before in
-    let l = t .before in
-    let s = l .before .before .before in
-    let here : o .link-offset .result ≡ linkOffset (s .args .nodes) (l .loop .i) = o .link-offset .ensures in
-    end-inside (s .args .nodes) (s .args .links) (s .pre .1 .start (l .loop .i) (t .loop-test .taken)) (a .short .ensures ∙ ap (λ (k : ℕ). shortAt (s .args .sheet .now) (k + 5)) here) (s .pre .0 .0)
+    let t = a .before in
+    let s = t .before .before .before .before in
+    (s .pre .0, subst (λ (k : ℕ). k < s .args .l .nodes) (sym (a .link-start .ensures)) (s .pre .1 .0 .start _ (t .loop-test .taken)))
 
 is-fixed-requires-2 : tie.Need-is-fixed-requires-2 Inv-loop μ-loop
 is-fixed-requires-2 c κs =
     let b = c .before in
-    let o = b .before .before in
-    let t = o .before in
-    let l = t .before in
-    let s = l .before .before .before in
-    let here : o .link-offset .result ≡ linkOffset (s .args .nodes) (l .loop .i) = o .link-offset .ensures in
-    end-inside (s .args .nodes) (s .args .links) (s .pre .1 .end (l .loop .i) (t .loop-test .taken)) (b .short2 .ensures ∙ ap (λ (k : ℕ). shortAt (s .args .sheet .now) (k + 7)) here) (s .pre .0 .0)
+    let t = b .before .before in
+    let s = t .before .before .before .before in
+    (s .pre .0, subst (λ (k : ℕ). k < s .args .l .nodes) (sym (b .link-end .ensures)) (s .pre .1 .0 .end _ (t .loop-test .taken)))
+
+mul-supplied : tie.Need-mul-supplied Inv-loop μ-loop
+mul-supplied c = omega arith
+
+shared-slice-read-supplied : tie.Need-shared-slice-read-supplied Inv-loop μ-loop
+shared-slice-read-supplied c = omega arith
+
+supplied-requires : tie.Need-supplied-requires Inv-loop μ-loop
+supplied-requires c κs = tt
+
+add-j : tie.Need-add-j Inv-loop μ-loop
+add-j c = omega arith
+
+loop-less : tie.Need-loop-less Inv-loop μ-loop
+loop-less c = omega arith
 
 loop-again : tie.Need-loop-again Inv-loop μ-loop
 loop-again c =
@@ -44,16 +66,15 @@ loop-again c =
     let fa = fb .before in
     let b = fa .before in
     let a = b .before in
-    let o = a .before in
-    let l = o .before .before in
-    (omega arith, next-supply _ _ _ _ _ _ _ _ _ _ _ (o .link-offset .ensures) (a .short .ensures) (b .short2 .ensures) (fa .is-fixed .ensures) (fb .is-fixed2 .ensures) (l .loop .inv .1) (c .supplied .ensures))
+    let t = a .before in
+    (omega (arith, t .loop-test .taken), next-supply _ _ _ _ _ _ _ _ _ _ (a .link-start .ensures) (b .link-end .ensures) (fa .is-fixed .ensures) (fb .is-fixed2 .ensures) (t .before .loop .inv .1) (c .supplied .ensures))
 
 returns : tie.Need-returns Inv-loop μ-loop
 returns c =
-    let l = c .before in
-    let a = l .before .before .before .args in
-    let e : l .loop .i ≡ a .links = omega arith in
-    l .loop .inv .1 ∙ ap (supplyOf (a .sheet .now) (a .nodes) (a .flows .now)) e
+    let o = c .before in
+    let a = o .before .before .before .args in
+    let e : o .loop .j ≡ a .l .links = omega (arith, o .loop .inv .0, c .loop-test .left) in
+    o .loop .inv .1 ∙ ap (supplyOf (a .sheet .now) (a .l) (a .flows .now)) e
 
 pub total-supply-spec : {M : Type 1} → statement M
 total-supply-spec =
@@ -62,17 +83,14 @@ total-supply-spec =
     Inv-loop
     μ-loop
     loop-holds
-    (λ c κs. omega arith)
-    (λ c. omega arith)
-    (λ c κs. omega arith)
-    (λ c. omega arith)
-    (λ c κs. omega arith)
+    link-start-requires
+    link-end-requires
     is-fixed-requires
     is-fixed-requires-2
-    (λ c. omega arith)
-    (λ c. omega arith)
-    (λ c κs. tt)
-    (λ c. omega arith)
-    (λ c. omega arith)
+    mul-supplied
+    shared-slice-read-supplied
+    supplied-requires
+    add-j
+    loop-less
     loop-again
     returns)

@@ -11,7 +11,7 @@ use Rattle.conclusion.proofs.conclude.Tie as tie
 balanced-requires : tie.Need-balanced-requires
 balanced-requires c κs =
     let start = c .before .before .before .before .before .before .before .before .before .before .before .before in
-    (omega (arith, start .pre .0, start .pre .1 .1 .1), start .pre .1 .0)
+    (start .pre .0, (start .pre .1 .0, omega (arith, start .pre .1 .1 .1)))
 
 settle-requires : tie.Need-settle-requires
 settle-requires c κs =
@@ -32,25 +32,25 @@ returns c =
     let e = t .before .before in
     let start = e .before .before .before .before .before .before .before .before .before .before .before in
     let v = start .args in
-    ((λ marks bytes record₀ scratch. told-balanced (v .sheet .now) (v .net) (v .trials) (lent (v .heads .now) (v .demands .now) (v .flows .now) (v .statuses .now) record₀ scratch) (state (v .h .now) (v .d .now) (v .q .now) (v .s .now) marks) (v .tally) bytes (v .ended) (t .balanced .result) _ _ _ _ _ (e .enum-told .given .1) (t .balanced .ensures) (w .settle .ensures) (g .give .ensures .0) (g .give .ensures .1 .0) (g .give .ensures .1 .1 .0) (g .give .ensures .1 .1 .1)), settled-balanced _ _ _ _ (e .enum-told .given .1) (w .settle .ensures))
+    ((λ marks bytes record₀ scratch. told-balanced (v .sheet .now) (v .l) (v .trials) (lent (v .heads .now) (v .demands .now) (v .flows .now) (v .statuses .now) record₀ scratch) (state (v .h .now) (v .d .now) (v .q .now) (v .c .now) marks) (v .tally) bytes (v .ended) (t .balanced .result) _ _ _ _ _ (e .enum-told .given .1) (t .balanced .ensures) (w .settle .ensures) (g .give .ensures .0) (g .give .ensures .1 .0) (g .give .ensures .1 .1 .0) (g .give .ensures .1 .1 .1)), settled-balanced _ _ _ _ (e .enum-told .given .1) (w .settle .ensures))
 
 returns-2 : tie.Need-returns-2
 returns-2 c =
     let start = c .before .before .before .before .before .before .before .before .before .before .before .before .before in
     let v = start .args in
-    ((λ marks bytes record₀ scratch. told-failed (v .sheet .now) (v .net) (v .trials) (lent (v .heads .now) (v .demands .now) (v .flows .now) (v .statuses .now) record₀ scratch) (state (v .h .now) (v .d .now) (v .q .now) (v .s .now) marks) (v .tally) bytes (v .ended) _ _ (c .before .before .ended .given .1) (c .failed .ensures)), settled-failed _ _ _ _ _ (c .before .before .ended .given .1) refl)
+    ((λ marks bytes record₀ scratch. told-failed (v .sheet .now) (v .l) (v .trials) (lent (v .heads .now) (v .demands .now) (v .flows .now) (v .statuses .now) record₀ scratch) (state (v .h .now) (v .d .now) (v .q .now) (v .c .now) marks) (v .tally) bytes (v .ended) _ _ (c .before .before .ended .given .1) (c .failed .ensures)), settled-failed _ _ _ _ _ (c .before .before .ended .given .1) refl)
 
 returns-3 : tie.Need-returns-3
 returns-3 c =
     let start = c .before .before .before .before .before .before .before .before .before .before .before .before .before in
     let v = start .args in
-    ((λ marks bytes record₀ scratch. told-strayed (v .sheet .now) (v .net) (v .trials) (lent (v .heads .now) (v .demands .now) (v .flows .now) (v .statuses .now) record₀ scratch) (state (v .h .now) (v .d .now) (v .q .now) (v .s .now) marks) (v .tally) bytes (v .ended) _ _ (c .before .before .ended2 .given .1) (c .failed2 .ensures)), settled-strayed _ _ _ _ _ (c .before .before .ended2 .given .1) refl)
+    ((λ marks bytes record₀ scratch. told-strayed (v .sheet .now) (v .l) (v .trials) (lent (v .heads .now) (v .demands .now) (v .flows .now) (v .statuses .now) record₀ scratch) (state (v .h .now) (v .d .now) (v .q .now) (v .c .now) marks) (v .tally) bytes (v .ended) _ _ (c .before .before .ended2 .given .1) (c .failed2 .ensures)), settled-strayed _ _ _ _ _ (c .before .before .ended2 .given .1) refl)
 
 returns-4 : tie.Need-returns-4
 returns-4 c =
     let start = c .before .before .before .before .before .before .before .before .before .before .before .before in
     let v = start .args in
-    ((λ marks bytes record₀ scratch. told-limit (v .sheet .now) (v .net) (v .trials) (lent (v .heads .now) (v .demands .now) (v .flows .now) (v .statuses .now) record₀ scratch) (state (v .h .now) (v .d .now) (v .q .now) (v .s .now) marks) (v .tally) bytes (v .ended) _ (c .before .enum-told2 .given .1) (c .failed3 .ensures)), settled-limit _ _ _ _ (c .before .enum-told2 .given .1) refl)
+    ((λ marks bytes record₀ scratch. told-limit (v .sheet .now) (v .l) (v .trials) (lent (v .heads .now) (v .demands .now) (v .flows .now) (v .statuses .now) record₀ scratch) (state (v .h .now) (v .d .now) (v .q .now) (v .c .now) marks) (v .tally) bytes (v .ended) _ (c .before .enum-told2 .given .1) (c .failed3 .ensures)), settled-limit _ _ _ _ (c .before .enum-told2 .given .1) refl)
 
 enum-told : tie.Need-enum-told
 enum-told c = search needs

@@ -47,7 +47,7 @@ returns c =
     let t = c .before .before .before .before in
     let d = t .before .before in
     let u = d .before in
-    coefficients-of _ _ _ _ _ _ _ _ _ _ (t .status-of .ensures) (u .elevation .ensures) (d .elevation2 .ensures) (c .coefficients .ensures)
+    coefficients-of _ _ _ _ _ _ _ _ _ _ _ (t .status-of .ensures) (u .elevation .ensures) (d .elevation2 .ensures) (c .coefficients .ensures)
 
 pub coefficients-at-spec : {M : Type 1} → statement M
 coefficients-at-spec =

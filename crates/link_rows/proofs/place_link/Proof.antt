@@ -3,6 +3,10 @@ use Rattle.numbering.proofs.Rows.{row-below}
 use Rattle.link_rows.proofs.Laws.{placed}
 use borrow.Author.Needs.{needs}
 use mathlib.Core.Path.{_∙_}
+use native.Mathlib.Omega.{arith}
+use Prim.Native.Nat.{_*_}
+use mir.Syntax.{w64}
+use mir.Val.{Fits}
 use Rattle.link_rows.proofs.place_link.Statement.{statement}
 use Rattle.link_rows.proofs.place_link.Tie as tie
 use Rattle.link_rows.proofs.place_link.Reads as reads
@@ -11,6 +15,10 @@ use Rattle.nodes.proofs.is_fixed.Reads as is-fixed-reads
 use Rattle.numbering.proofs.unknown_of.Reads as unknown-of-reads
 use Rattle.scatter.proofs.link_into_matrix.Reads as link-into-matrix-reads
 use Rattle.scatter.proofs.link_into_row.Reads as link-into-row-reads
+
+-- the place of link j in a column of f64s
+small : (s : tie.Start) → Fits w64 (s .args .j * 8)
+small s = record { fits = omega (arith, s .pre .0 .links, s .pre .1 .1 .0) }
 
 unknown-of-requires : tie.Need-unknown-of-requires
 unknown-of-requires c κs = search needs
@@ -25,10 +33,10 @@ is-fixed-requires-2 : tie.Need-is-fixed-requires-2
 is-fixed-requires-2 c κs = search needs
 
 mul-q : tie.Need-mul-q
-mul-q c = search needs
+mul-q c = small (c .before .before .before .before .before .before .before .before .before .before .before .before .before .before)
 
 shared-slice-read-q : tie.Need-shared-slice-read-q
-shared-slice-read-q c = search needs
+shared-slice-read-q c = let s = c .before .before .before .before .before .before .before .before .before .before .before .before .before .before .before in omega (arith, s .pre .0 .flows, s .pre .1 .1 .0)
 
 mul-head-start : tie.Need-mul-head-start
 mul-head-start c = search needs
@@ -43,16 +51,16 @@ shared-slice-read-head-end : tie.Need-shared-slice-read-head-end
 shared-slice-read-head-end c = search needs
 
 mul-g : tie.Need-mul-g
-mul-g c = search needs
+mul-g c = small (c .before .before .before .before .before .before .before .before .before .before .before .before .before .before .before .before .before)
 
 slice-write-g : tie.Need-slice-write-g
-slice-write-g c = search needs
+slice-write-g c = let s = c .before .before .before .before .before .before .before .before .before .before .before .before .before .before .before .before .before in omega (arith, s .pre .1 .0 .g, s .pre .1 .1 .0)
 
 mul-y : tie.Need-mul-y
-mul-y c = search needs
+mul-y c = small (c .before .before .before .before .before .before .before .before .before .before .before .before .before .before .before .before .before)
 
 slice-write-y : tie.Need-slice-write-y
-slice-write-y c = search needs
+slice-write-y c = let s = c .before .before .before .before .before .before .before .before .before .before .before .before .before .before .before .before .before in omega (arith, s .pre .1 .0 .y, s .pre .1 .1 .0)
 
 link-into-matrix-requires : tie.Need-link-into-matrix-requires
 link-into-matrix-requires c κs =
@@ -62,10 +70,10 @@ link-into-matrix-requires c κs =
     let u = v .before in
     let s = u .before .before .before .before .before .before .before .before .before .before .before in
     let given = s .pre .0 in
-    let ends = s .pre .1 .1 in
-    let ru = u .unknown-of .ensures ∙ given .rows .right (s .args .link .start) (ends .0) in
-    let rv = v .unknown-of2 .ensures ∙ given .rows .right (s .args .link .end) (ends .1) in
-    (s .pre .1 .0 .matrix, (row-below _ _ _ _ ru (ends .0) (given .few), row-below _ _ _ _ rv (ends .1) (given .few)))
+    let ends = s .pre .1 .1 .1 in
+    let ru = u .unknown-of .ensures ∙ given .rows .right (s .args .k .start) (ends .0) in
+    let rv = v .unknown-of2 .ensures ∙ given .rows .right (s .args .k .end) (ends .1) in
+    (s .pre .1 .0 .matrix, (row-below _ _ _ _ _ ru (ends .0) (given .few), row-below _ _ _ _ _ rv (ends .1) (given .few)))
 
 link-into-row-requires : tie.Need-link-into-row-requires
 link-into-row-requires c κs =
@@ -76,10 +84,10 @@ link-into-row-requires c κs =
     let u = v .before in
     let s = u .before .before .before .before .before .before .before .before .before .before .before in
     let given = s .pre .0 in
-    let ends = s .pre .1 .1 in
-    let ru = u .unknown-of .ensures ∙ given .rows .right (s .args .link .start) (ends .0) in
-    let rv = v .unknown-of2 .ensures ∙ given .rows .right (s .args .link .end) (ends .1) in
-    (s .pre .1 .0 .rhs, (row-below _ _ _ _ ru (ends .0) (given .few), row-below _ _ _ _ rv (ends .1) (given .few)))
+    let ends = s .pre .1 .1 .1 in
+    let ru = u .unknown-of .ensures ∙ given .rows .right (s .args .k .start) (ends .0) in
+    let rv = v .unknown-of2 .ensures ∙ given .rows .right (s .args .k .end) (ends .1) in
+    (s .pre .1 .0 .rhs, (row-below _ _ _ _ _ ru (ends .0) (given .few), row-below _ _ _ _ _ rv (ends .1) (given .few)))
 
 same-length : tie.Need-same-length
 same-length c = search needs
@@ -103,10 +111,10 @@ returns c =
     let u = v .before in
     let s = u .before .before .before .before .before .before .before .before .before .before .before in
     let given = s .pre .0 in
-    let ends = s .pre .1 .1 in
-    let ru = u .unknown-of .ensures ∙ given .rows .right (s .args .link .start) (ends .0) in
-    let rv = v .unknown-of2 .ensures ∙ given .rows .right (s .args .link .end) (ends .1) in
-    placed _ _ _ _ _ _ _ _ _ _ _ _ _ _ _ ru rv (d .is-fixed .ensures) (f .is-fixed2 .ensures) (m .link-into-matrix .ensures) (r .link-into-row .ensures)
+    let ends = s .pre .1 .1 .1 in
+    let ru = u .unknown-of .ensures ∙ given .rows .right (s .args .k .start) (ends .0) in
+    let rv = v .unknown-of2 .ensures ∙ given .rows .right (s .args .k .end) (ends .1) in
+    placed _ _ _ _ _ _ _ _ _ _ _ _ _ _ _ _ ru rv (d .is-fixed .ensures) (f .is-fixed2 .ensures) (m .link-into-matrix .ensures) (r .link-into-row .ensures)
 
 pub place-link-spec : {M : Type 1} → statement M
 place-link-spec =

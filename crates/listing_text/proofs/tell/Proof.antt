@@ -15,10 +15,10 @@ returns c =
 result-lines-requires : tie.Need-result-lines-requires
 result-lines-requires c κs =
     let m = c .before .before in
-    let net = network-of _ _ (sym (m .before .before .read .ensures) ∙ m .net .given .1) in
+    let l = network-of _ _ (sym (m .before .before .read .ensures) ∙ m .l .given .1) in
     let h = m .before .before .before .before .before .before .before in
     let start = h .before .before .before .before .before .before .before .before .before in
-    omega (arith, net .nodes, net .links, h .head-lines .ensures .1, h .head-lines .kept, start .pre)
+    omega (arith, l .nodes, l .links, h .head-lines .ensures .1, h .head-lines .kept, start .pre)
 
 returns-2 : tie.Need-returns-2
 returns-2 c =
@@ -26,7 +26,7 @@ returns-2 c =
     let m = r .before .before .before in
     let i = m .before .before .before in
     let h = i .before .before .before .before in
-    (told-all _ _ _ _ _ _ _ (h .head-lines .ensures .0) _ (sym (m .before .before .read .ensures) ∙ m .net .given .1) (i .if1 .left) (r .result-lines .ensures .0), r .result-lines .ensures .1)
+    (told-all _ _ _ _ _ _ _ (h .head-lines .ensures .0) _ (sym (m .before .before .read .ensures) ∙ m .l .given .1) (i .if1 .left) (r .result-lines .ensures .0), r .result-lines .ensures .1)
 
 returns-3 : tie.Need-returns-3
 returns-3 c =

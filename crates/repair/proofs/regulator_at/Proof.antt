@@ -9,17 +9,20 @@ use Rattle.repair.proofs.regulator_at.Statement.{statement}
 use Rattle.repair.proofs.regulator_at.Tie as tie
 
 abbrev Inv-loop : tie.InvT-loop
-Inv-loop sheet nodes links statuses node j₀ j = (j ≤ links) × (regulatorFrom sheet nodes statuses (node .0) (links - j) j ≡ regulatorAt sheet nodes links statuses (node .0))
+Inv-loop sheet l statuses node j₀ j-end j = (j ≤ l .links) × (regulatorFrom sheet l statuses (node .0) (l .links - j) j ≡ regulatorAt sheet l statuses (node .0))
 
 abbrev μ-loop : tie.MeasureT-loop
-μ-loop sheet nodes links statuses node j₀ j = links - j
+μ-loop sheet l statuses node j₀ j-end j = l .links - j
 
 loop-holds : tie.Need-loop-holds Inv-loop μ-loop
 unfolding regulatorAt
 loop-holds c = (omega arith, rw sub-zero)
 
 regulates-at-requires : tie.Need-regulates-at-requires Inv-loop μ-loop
-regulates-at-requires c κs = omega arith
+regulates-at-requires c κs =
+    let s = c .before .before .before .before in
+    let more = c .loop-test .taken in
+    (s .pre .0, (more, omega (arith, s .pre .1, more)))
 
 returns : tie.Need-returns Inv-loop μ-loop
 returns c =

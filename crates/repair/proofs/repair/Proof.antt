@@ -10,22 +10,22 @@ slice-write-statuses : tie.Need-slice-write-statuses
 slice-write-statuses c =
     let r = c .before .before .before in
     let start = r .before .before .before .before .before in
-    omega (arith, start .pre, regulator-below _ _ _ _ _ _ (sym (r .regulator-at .ensures) ∙ c .before .j .given .1))
+    omega (arith, start .pre, regulator-below _ _ _ _ _ (sym (r .regulator-at .ensures) ∙ c .before .j .given .1))
 
 returns : tie.Need-returns
 returns c =
     let r = c .before .before .before in
-    repair-frees _ _ _ _ _ _ _ (sym (r .regulator-at .ensures) ∙ c .before .j .given .1)
+    repair-frees _ _ _ _ _ _ (sym (r .regulator-at .ensures) ∙ c .before .j .given .1)
 
 returns-2 : tie.Need-returns-2
 returns-2 c =
     let r = c .before .before .before .before in
-    repair-singular _ _ _ _ _ _ (sym (r .regulator-at .ensures) ∙ c .before .before .enum-told .given .1) (c .if1 .taken)
+    repair-singular _ _ _ _ _ (sym (r .regulator-at .ensures) ∙ c .before .before .enum-told .given .1) (c .if1 .taken)
 
 returns-3 : tie.Need-returns-3
 returns-3 c =
     let r = c .before .before .before .before in
-    repair-grounds _ _ _ _ _ _ (sym (r .regulator-at .ensures) ∙ c .before .before .enum-told .given .1) (c .if1 .left)
+    repair-grounds _ _ _ _ _ (sym (r .regulator-at .ensures) ∙ c .before .before .enum-told .given .1) (c .if1 .left)
 
 pub repair-spec : {M : Type 1} → statement M
 repair-spec =

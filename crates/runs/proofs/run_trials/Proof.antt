@@ -14,22 +14,22 @@ use Rattle.runs.proofs.run_trials.Statement.{statement}
 use Rattle.runs.proofs.run_trials.Tie as tie
 
 abbrev Inv-loop : tie.InvT-loop
-Inv-loop sheet nodes links trials unknowns back unknown-count a b heads₀ demands₀ flows₀ statuses₀ grounded₀ entries₀ scratch₀ d₀ tally₀ i₀ heads demands flows statuses grounded entries scratch d tally i =
+Inv-loop sheet l trials unknowns table heads₀ demands₀ flows₀ statuses₀ grounded₀ entries₀ scratch₀ d₀ tally₀ i₀ heads demands flows statuses grounded entries scratch d tally i =
     Kept (state heads₀ demands₀ flows₀ statuses₀ grounded₀) (state heads demands flows statuses grounded) entries₀ entries scratch₀ scratch
     × (i ≤ trials)
     × (tally .trials ≡ i)
     × (tally .freed ≤ i)
     × (tally .grounded ≤ i)
-    × (finish i tally entries (runWith repairOf sheet nodes links (trials - i) d (state heads demands flows statuses grounded))
-    ≡ finish 0 none entries₀ (runWith repairOf sheet nodes links trials dampingStart (state heads₀ demands₀ flows₀ statuses₀ grounded₀)))
+    × (finish i tally entries (runWith repairOf sheet l (trials - i) d (state heads demands flows statuses grounded))
+    ≡ finish 0 none entries₀ (runWith repairOf sheet l trials dampingStart (state heads₀ demands₀ flows₀ statuses₀ grounded₀)))
 
 abbrev μ-loop : tie.MeasureT-loop
-μ-loop sheet nodes links trials unknowns back unknown-count a b heads₀ demands₀ flows₀ statuses₀ grounded₀ entries₀ scratch₀ d₀ tally₀ i₀ heads demands flows statuses grounded entries scratch d tally i =
+μ-loop sheet l trials unknowns table heads₀ demands₀ flows₀ statuses₀ grounded₀ entries₀ scratch₀ d₀ tally₀ i₀ heads demands flows statuses grounded entries scratch d tally i =
     trials - i
 
 -- the places of a turn
 abbrev start-of : tie.At-loop Inv-loop μ-loop → tie.Start Inv-loop μ-loop
-start-of l = l .before .before .before .before .before .before .before .before .before .before .before .before
+start-of l = l .before .before .before .before .before .before .before .before .before .before .before
 
 abbrev loop-of : tie.After-trial Inv-loop μ-loop → tie.At-loop Inv-loop μ-loop
 loop-of t = t .before .before .before .before .before .before .before .before
@@ -54,7 +54,7 @@ trial-requires : tie.Need-trial-requires Inv-loop μ-loop
 trial-requires c κs =
     let l = c .before .before .before .before .before .before .before in
     let start = start-of l in
-    (start .pre .0, (start .pre .1 .0, (start .pre .1 .1 .0, (start .pre .1 .1 .1 .0, (kept-room _ _ _ _ _ _ _ _ (l .loop .inv .0) (start .pre .1 .1 .1 .1 .0), omega (arith, l .loop .inv .0 .scratch, start .pre .1 .1 .1 .1 .1 .1 .1))))))
+    (start .pre .0, (start .pre .1 .0, (start .pre .1 .1 .0, (kept-room _ _ _ _ _ _ _ (l .loop .inv .0) (start .pre .1 .1 .1 .0), omega (arith, l .loop .inv .0 .scratch, start .pre .1 .1 .1 .1 .1 .1)))))
 
 marked-requires : tie.Need-marked-requires Inv-loop μ-loop
 marked-requires c κs = search needs
@@ -64,19 +64,19 @@ put-requires c κs =
     let t = c .before .before .before .before .before .before .before .before .before .before .before .before .before .before in
     let l = loop-of t in
     let start = start-of l in
-    omega (arith, l .loop .inv .0 .entries, l .loop .inv .1, t .before .before .before .before .before .before .before .loop-test .taken, start .pre .1 .1 .1 .1 .1)
+    omega (arith, l .loop .inv .0 .entries, l .loop .inv .1, t .before .before .before .before .before .before .before .loop-test .taken, start .pre .1 .1 .1 .1)
 
 count-requires : tie.Need-count-requires Inv-loop μ-loop
 count-requires c κs =
     let t = trial-of (c .before .before) in
     let l = loop-of t in
     let start = start-of l in
-    omega (arith, l .loop .inv .2, l .loop .inv .3, l .loop .inv .4, t .before .before .before .before .before .before .before .loop-test .taken, start .pre .1 .1 .1 .1 .1)
+    omega (arith, l .loop .inv .2, l .loop .inv .3, l .loop .inv .4, t .before .before .before .before .before .before .before .loop-test .taken, start .pre .1 .1 .1 .1)
 
 add-i : tie.Need-add-i Inv-loop μ-loop
 add-i c =
     let t = trial-of (put-of c) in
-    omega (arith, t .before .before .before .before .before .before .before .loop-test .taken, start-of (loop-of t) .pre .1 .1 .1 .1 .1)
+    omega (arith, t .before .before .before .before .before .before .before .loop-test .taken, start-of (loop-of t) .pre .1 .1 .1 .1)
 
 go-requires : tie.Need-go-requires Inv-loop μ-loop
 go-requires c κs = search needs
@@ -96,7 +96,7 @@ loop-again c =
     let t = trial-of p in
     let l = loop-of t in
     let v = l .loop .inv .0 in
-    let u = t .trial .kept .1 .1 .1 .1 .1 .1 .1 .1 .1 in
+    let u = t .trial .kept .1 .1 .1 .1 .1 in
     let b = counts (l .loop .tally) (t .trial .result) in (
       record {
         heads = u .0 ∙ v .heads;
@@ -111,7 +111,7 @@ loop-again c =
       rw (k .count .ensures) (omega (arith, b, l .loop .inv .2)),
       rw (k .count .ensures) (omega (arith, b, l .loop .inv .3)),
       rw (k .count .ensures) (omega (arith, b, l .loop .inv .4)),
-      run-on _ _ _ _ _ _ _ _ _ _ _ _ _ _ _ _ _ (t .before .before .before .before .before .before .before .loop-test .taken) (t .trial .ensures .0) (p .before .marked .ensures) (p .put .ensures) (k .count .ensures) (c .before .before .before .go .ensures) (c .before .next .given .1) ∙ l .loop .inv .5,
+      run-on _ _ _ _ _ _ _ _ _ _ _ _ _ _ _ _ (t .before .before .before .before .before .before .before .loop-test .taken) (t .trial .ensures .0) (p .before .marked .ensures) (p .put .ensures) (k .count .ensures) (c .before .before .before .go .ensures) (c .before .next .given .1) ∙ l .loop .inv .5,
     )
 
 enum-known-ended : tie.Need-enum-known-ended Inv-loop μ-loop
@@ -121,42 +121,42 @@ clear-requires : tie.Need-clear-requires Inv-loop μ-loop
 clear-requires c κs =
     let t = trial-of (put-of (c .before .before .before .before .before)) in
     let l = loop-of t in
-    omega (arith, t .trial .kept .1 .1 .1 .1 .1 .1 .1 .1 .1 .1 .1 .1 .1 .1 .0, l .loop .inv .0 .scratch, start-of l .pre .1 .1 .1 .1 .1 .1 .1)
+    omega (arith, t .trial .kept .1 .1 .1 .1 .1 .1 .1 .1 .1 .1 .0, l .loop .inv .0 .scratch, start-of l .pre .1 .1 .1 .1 .1 .1)
 
 same-length : tie.Need-same-length Inv-loop μ-loop
 same-length c =
     let w = c .before .before in
     let p = put-of (turn-of w .before) in
     let t = trial-of p in
-    t .trial .kept .1 .1 .1 .1 .1 .1 .1 .1 .1 .0 ∙ loop-of t .loop .inv .0 .heads
+    t .trial .kept .1 .1 .1 .1 .1 .0 ∙ loop-of t .loop .inv .0 .heads
 
 same-length-2 : tie.Need-same-length-2 Inv-loop μ-loop
 same-length-2 c =
     let w = c .before .before in
     let p = put-of (turn-of w .before) in
     let t = trial-of p in
-    t .trial .kept .1 .1 .1 .1 .1 .1 .1 .1 .1 .1 .0 ∙ loop-of t .loop .inv .0 .demands
+    t .trial .kept .1 .1 .1 .1 .1 .1 .0 ∙ loop-of t .loop .inv .0 .demands
 
 same-length-3 : tie.Need-same-length-3 Inv-loop μ-loop
 same-length-3 c =
     let w = c .before .before in
     let p = put-of (turn-of w .before) in
     let t = trial-of p in
-    t .trial .kept .1 .1 .1 .1 .1 .1 .1 .1 .1 .1 .1 .0 ∙ loop-of t .loop .inv .0 .flows
+    t .trial .kept .1 .1 .1 .1 .1 .1 .1 .0 ∙ loop-of t .loop .inv .0 .flows
 
 same-length-4 : tie.Need-same-length-4 Inv-loop μ-loop
 same-length-4 c =
     let w = c .before .before in
     let p = put-of (turn-of w .before) in
     let t = trial-of p in
-    t .trial .kept .1 .1 .1 .1 .1 .1 .1 .1 .1 .1 .1 .1 .0 ∙ loop-of t .loop .inv .0 .statuses
+    t .trial .kept .1 .1 .1 .1 .1 .1 .1 .1 .0 ∙ loop-of t .loop .inv .0 .statuses
 
 same-length-5 : tie.Need-same-length-5 Inv-loop μ-loop
 same-length-5 c =
     let w = c .before .before in
     let p = put-of (turn-of w .before) in
     let t = trial-of p in
-    t .trial .kept .1 .1 .1 .1 .1 .1 .1 .1 .1 .1 .1 .1 .1 .0 ∙ loop-of t .loop .inv .0 .grounded
+    t .trial .kept .1 .1 .1 .1 .1 .1 .1 .1 .1 .0 ∙ loop-of t .loop .inv .0 .grounded
 
 same-length-6 : tie.Need-same-length-6 Inv-loop μ-loop
 same-length-6 c =
@@ -170,7 +170,7 @@ same-length-7 c =
     let w = c .before .before in
     let p = put-of (turn-of w .before) in
     let t = trial-of p in
-    w .clear .kept .1 .0 ∙ t .trial .kept .1 .1 .1 .1 .1 .1 .1 .1 .1 .1 .1 .1 .1 .1 .0 ∙ loop-of t .loop .inv .0 .scratch
+    w .clear .kept .1 .0 ∙ t .trial .kept .1 .1 .1 .1 .1 .1 .1 .1 .1 .1 .0 ∙ loop-of t .loop .inv .0 .scratch
 
 returns : tie.Need-returns Inv-loop μ-loop
 returns c =
@@ -180,14 +180,14 @@ returns c =
     let p = put-of k in
     let t = trial-of p in
     let l = loop-of t in (
-      run-over _ _ _ _ _ _ _ _ _ _ _ _ _ _ _ _ _ (t .before .before .before .before .before .before .before .loop-test .taken) (t .trial .ensures .0) (p .before .marked .ensures) (p .put .ensures) (k .count .ensures) (g .go .ensures) (w .before .before .before .ended .given .1) ∙ l .loop .inv .5,
-      w .clear .ensures ∙ cleared-zeros 4096 _ (t .trial .kept .1 .1 .1 .1 .1 .1 .1 .1 .1 .1 .1 .1 .1 .1 .0 ∙ l .loop .inv .0 .scratch ∙ start-of l .pre .1 .1 .1 .1 .1 .1 .1),
+      run-over _ _ _ _ _ _ _ _ _ _ _ _ _ _ _ _ (t .before .before .before .before .before .before .before .loop-test .taken) (t .trial .ensures .0) (p .before .marked .ensures) (p .put .ensures) (k .count .ensures) (g .go .ensures) (w .before .before .before .ended .given .1) ∙ l .loop .inv .5,
+      w .clear .ensures ∙ cleared-zeros 4096 _ (t .trial .kept .1 .1 .1 .1 .1 .1 .1 .1 .1 .1 .0 ∙ l .loop .inv .0 .scratch ∙ start-of l .pre .1 .1 .1 .1 .1 .1),
     )
 
 clear-requires-2 : tie.Need-clear-requires-2 Inv-loop μ-loop
 clear-requires-2 c κs =
     let l = c .before .before in
-    omega (arith, l .loop .inv .0 .scratch, start-of l .pre .1 .1 .1 .1 .1 .1 .1)
+    omega (arith, l .loop .inv .0 .scratch, start-of l .pre .1 .1 .1 .1 .1 .1)
 
 same-length-8 : tie.Need-same-length-8 Inv-loop μ-loop
 same-length-8 c =
@@ -228,8 +228,8 @@ returns-2 : tie.Need-returns-2 Inv-loop μ-loop
 returns-2 c =
     let w = c .before .before in
     let l = w .before .before .before in (
-      run-limit _ _ _ _ _ _ _ _ _ _ (w .before .before .loop-test .left) ∙ l .loop .inv .5,
-      w .clear2 .ensures ∙ cleared-zeros 4096 _ (l .loop .inv .0 .scratch ∙ start-of l .pre .1 .1 .1 .1 .1 .1 .1),
+      run-limit _ _ _ _ _ _ _ _ _ (w .before .before .loop-test .left) ∙ l .loop .inv .5,
+      w .clear2 .ensures ∙ cleared-zeros 4096 _ (l .loop .inv .0 .scratch ∙ start-of l .pre .1 .1 .1 .1 .1 .1),
     )
 
 pub run-trials-spec : {M : Type 1} → statement M

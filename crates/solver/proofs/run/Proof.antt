@@ -1,13 +1,13 @@
 -- `solver::run` meets its contract: the columns as the sheet gives them, and the run. Assumes nothing.
 use native.Mathlib.Omega.{arith}
-use Prim.Native.Nat.{ℕ}
 use mathlib.Core.Path.{_≡_, sym, _∙_, subst}
 use mathlib.Core.List.{List}
+use Prim.Native.Nat.{ℕ}
 use borrow.Author.Needs.{needs}
 use lib.Seq.{length-take-le}
 use Rattle.columns.specs.Columns.{zeros}
-use Rattle.numbering.proofs.Rows.{rows-right, nodes-right}
-use Rattle.numbering.specs.Numbering.{RowsRight, NodesRight}
+use Rattle.numbering.proofs.Rows.{rows-right}
+use Rattle.numbering.specs.Numbering.{RowsRight}
 use Rattle.state.specs.State.{state}
 use Rattle.trial.specs.Trial.{repairOf}
 use Rattle.solver.proofs.Laws.{network-of, few-trials, emptied-part, run-of}
@@ -16,34 +16,37 @@ use Rattle.solver.proofs.run.Tie as tie
 
 -- the places, each from the one after it
 abbrev links-of : tie.After-number-unknowns → tie.After-start-links
-links-of n = n .before .before .before .before .before
+links-of n = n .before .before .before .before
 
 abbrev nodes-of : tie.After-start-links → tie.After-start-nodes
 nodes-of k = k .before .before .before .before .before
 
+abbrev table-of : tie.After-start-nodes → tie.After-power-table
+table-of j = j .before .before .before
+
 abbrev start-of : tie.After-start-nodes → tie.Start
-start-of j = j .before .before .before .before .before .before .before .before
+start-of j = table-of j .before .before .before .before
 
 start-nodes-requires : tie.Need-start-nodes-requires
-start-nodes-requires c κs = omega (arith, network-of _ _ (c .before .before .before .before .before .before .before .pre .0))
+start-nodes-requires c κs = let net = network-of _ _ (c .before .before .before .before .before .before .pre .0) in (net .laid, omega (arith, net .nodes))
 
 start-links-requires : tie.Need-start-links-requires
-start-links-requires c κs = omega (arith, network-of _ _ (start-of (c .before .before .before .before) .pre .0))
+start-links-requires c κs = let net = network-of _ _ (start-of (c .before .before .before .before) .pre .0) in (net .laid, omega (arith, net .links))
 
 number-unknowns-requires : tie.Need-number-unknowns-requires
-number-unknowns-requires c κs = omega (arith, network-of _ _ (start-of (nodes-of (c .before .before .before .before)) .pre .0))
+number-unknowns-requires c κs = let net = network-of _ _ (start-of (nodes-of (c .before .before .before)) .pre .0) in (net .laid, omega (arith, net .nodes))
 
 slice-relend-prefix-run-trials : tie.Need-slice-relend-prefix-run-trials
-slice-relend-prefix-run-trials c = start-of (nodes-of (links-of (c .before .before .before .before .before .before .before .before .before .before .before .before))) .pre .1 .1 .1
+slice-relend-prefix-run-trials c = start-of (nodes-of (links-of (c .before .before .before .before .before .before .before .before .before))) .pre .1 .1 .1
 
-slice-aggregate-run-trials-8 : tie.Need-slice-aggregate-run-trials-8
-slice-aggregate-run-trials-8 c =
-    let start = start-of (nodes-of (links-of (c .before .before .before .before .before .before .before .before .before .before .before .before .before))) in
+slice-aggregate-run-trials-7 : tie.Need-slice-aggregate-run-trials-7
+slice-aggregate-run-trials-7 c =
+    let start = start-of (nodes-of (links-of (c .before .before .before .before .before .before .before .before .before .before))) in
     sym (length-take-le 4096 (start .args .scratch .now) (start .pre .1 .1 .1))
 
 run-trials-requires : tie.Need-run-trials-requires
 run-trials-requires c κs =
-    let n = c .before .before .before .before .before .before .before .before .before .before .before .before .before in
+    let n = c .before .before .before .before .before .before .before .before .before .before in
     let k = links-of n in
     let j = nodes-of k in
     let start = start-of j in
@@ -54,18 +57,15 @@ run-trials-requires c κs =
     let kept' = k .start-links .kept in (
       net,
       (
-        (n .number-unknowns .ensures .0, omega (arith, net .nodes, n .number-unknowns .kept)),
         (
+          omega (arith, net .nodes, n .number-unknowns .kept),
+          subst (λ (x : List ℕ). RowsRight (v .l) (v .sheet .now) x) (sym (n .number-unknowns .ensures)) (rows-right (v .sheet .now) (v .l) _ (omega (arith, net .nodes)) (omega (arith, net .nodes))),
+        ),
+        (
+          table-of j .power-table .ensures,
           (
-            subst (λ (l : List ℕ). RowsRight (v .net .nodes) (v .sheet .now) l) (sym (n .number-unknowns .ensures .1 .0)) (rows-right (v .sheet .now) (v .net .nodes) _ (omega (arith, net .nodes)) (omega (arith, net .nodes))),
-            subst (λ (l : List ℕ). NodesRight (v .net .nodes) (v .sheet .now) l) (sym (n .number-unknowns .ensures .1 .1)) (nodes-right (v .sheet .now) (v .net .nodes) _ (omega (arith, net .nodes))),
-          ),
-          (
-            (j .before .before .before .before .table-a .ensures, j .before .before .before .table-b .ensures),
-            (
-              record { heads = omega (arith, net .nodes, kept); demands = omega (arith, net .nodes, kept); flows = omega (arith, net .links, kept'); statuses = omega (arith, net .links, kept'); grounded = omega (arith, net .nodes) },
-              (omega (arith, few, start .pre .1 .0), (start .pre .1 .1 .0, length-take-le 4096 (v .scratch .now) (start .pre .1 .1 .1))),
-            ),
+            record { heads = omega (arith, net .nodes, kept); demands = omega (arith, net .nodes, kept); flows = omega (arith, net .links, kept'); statuses = omega (arith, net .links, kept'); grounded = omega (arith, net .nodes) },
+            (omega (arith, few, start .pre .1 .0), (start .pre .1 .1 .0, length-take-le 4096 (v .scratch .now) (start .pre .1 .1 .1))),
           ),
         ),
       ),
@@ -75,15 +75,15 @@ returns : tie.Need-returns
 unfolding zeros
 returns c =
     let r = c .before .before .before .before .before .before .before .before .before in
-    let k = links-of (r .before .before .before .before .before .before .before .before .before .before .before .before .before .before) in
+    let k = links-of (r .before .before .before .before .before .before .before .before .before .before .before) in
     let j = nodes-of k in
     let start = start-of j in
     let a = start .args in
     let h = j .start-nodes .last .1 .1 in
-    let q = k .start-links .last .1 .1 .1 in
+    let q = k .start-links .last .1 .1 in
     let net = network-of _ _ (start .pre .0) in
-    let u = r .run-trials .kept .1 .1 .1 .1 .1 .1 .1 .1 .1 in (
-      run-of repairOf (a .sheet .now) (a .net) (a .trials) (a .entries .now) (h .0) (h .1 .0) (q .0) (q .1 .0) _ (start .pre .1 .0) (j .start-nodes .ensures .0) (j .start-nodes .ensures .1) (k .start-links .ensures .0) (k .start-links .ensures .1) (r .run-trials .ensures .0),
+    let u = r .run-trials .kept .1 .1 .1 .1 .1 in (
+      run-of repairOf (a .sheet .now) (a .l) (a .trials) (a .entries .now) (h .0) (h .1 .0) (q .0) (q .1 .0) _ (start .pre .1 .0) (j .start-nodes .ensures .0) (j .start-nodes .ensures .1) (k .start-links .ensures .0) (k .start-links .ensures .1) (r .run-trials .ensures .0),
       (
         record {
           heads = omega (arith, net .nodes, u .0, j .start-nodes .kept);
@@ -96,11 +96,8 @@ returns c =
       ),
     )
 
-table-a-requires : tie.Need-table-a-requires
-table-a-requires c κs = search needs
-
-table-b-requires : tie.Need-table-b-requires
-table-b-requires c κs = search needs
+power-table-requires : tie.Need-power-table-requires
+power-table-requires c κs = search needs
 
 slice-aggregate-start-nodes : tie.Need-slice-aggregate-start-nodes
 slice-aggregate-start-nodes c = search needs
@@ -116,9 +113,6 @@ slice-aggregate-start-links-2 c = search needs
 
 slice-aggregate-number-unknowns : tie.Need-slice-aggregate-number-unknowns
 slice-aggregate-number-unknowns c = search needs
-
-slice-aggregate-number-unknowns-2 : tie.Need-slice-aggregate-number-unknowns-2
-slice-aggregate-number-unknowns-2 c = search needs
 
 slice-aggregate-run-trials : tie.Need-slice-aggregate-run-trials
 slice-aggregate-run-trials c = search needs
@@ -138,9 +132,6 @@ slice-aggregate-run-trials-5 c = search needs
 slice-aggregate-run-trials-6 : tie.Need-slice-aggregate-run-trials-6
 slice-aggregate-run-trials-6 c = search needs
 
-slice-aggregate-run-trials-7 : tie.Need-slice-aggregate-run-trials-7
-slice-aggregate-run-trials-7 c = search needs
-
 same-length : tie.Need-same-length
 same-length c = search needs
 
@@ -151,8 +142,7 @@ pub run-spec : {M : Type 1} → statement M
 run-spec =
     tie.close
     (tie.spec
-    table-a-requires
-    table-b-requires
+    power-table-requires
     slice-aggregate-start-nodes
     slice-aggregate-start-nodes-2
     start-nodes-requires
@@ -160,7 +150,6 @@ run-spec =
     slice-aggregate-start-links-2
     start-links-requires
     slice-aggregate-number-unknowns
-    slice-aggregate-number-unknowns-2
     number-unknowns-requires
     slice-aggregate-run-trials
     slice-aggregate-run-trials-2
@@ -168,9 +157,8 @@ run-spec =
     slice-aggregate-run-trials-4
     slice-aggregate-run-trials-5
     slice-aggregate-run-trials-6
-    slice-aggregate-run-trials-7
     slice-relend-prefix-run-trials
-    slice-aggregate-run-trials-8
+    slice-aggregate-run-trials-7
     run-trials-requires
     same-length
     same-length-2

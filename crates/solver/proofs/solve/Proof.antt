@@ -10,11 +10,12 @@ use Rattle.solver.proofs.solve.Tie as tie
 
 options-of-requires : tie.Need-options-of-requires
 options-of-requires c κs =
-    omega (arith, network-of _ _ (sym (c .before .before .before .read .ensures) ∙ c .before .net .given .1) .size)
+    let w = network-of _ _ (sym (c .before .before .before .read .ensures) ∙ c .before .l .given .1) in
+    omega (arith, w .laid .options, w .laid .nodes)
 
-short-requires : tie.Need-short-requires
-short-requires c κs =
-    omega (arith, few-trials _ _ (sym (c .before .before .before .before .read .ensures) ∙ c .before .before .net .given .1), ap (λ (o : Options). o .trials) (c .options-of .ensures))
+too-short-requires : tie.Need-too-short-requires
+too-short-requires c κs =
+    omega (arith, few-trials _ _ (sym (c .before .before .before .before .read .ensures) ∙ c .before .before .l .given .1), ap (λ (o : Options). o .trials) (c .options-of .ensures))
 
 solved-requires : tie.Need-solved-requires
 solved-requires c κs =
@@ -22,7 +23,7 @@ solved-requires c κs =
     let h = e .before .before in
     let o = h .before in
     let m = o .before .before in
-    (sym (m .before .before .read .ensures) ∙ m .net .given .1, (ap (λ (o : Options). o .trials) (o .options-of .ensures), enough _ _ _ (sym (h .short .ensures) ∙ e .enum-told .given .1)))
+    (sym (m .before .before .read .ensures) ∙ m .l .given .1, (ap (λ (o : Options). o .trials) (o .options-of .ensures), enough _ _ _ (sym (h .too-short .ensures) ∙ e .enum-told .given .1)))
 
 returns : tie.Need-returns
 returns c =
@@ -36,7 +37,7 @@ returns-2 c =
     let h = c .before .before .before .before in
     let o = h .before in
     let m = o .before .before in
-    solve-short _ _ _ _ (m .before .before .read .ensures) _ _ _ (m .net .given .1) (ap (λ (o : Options). o .trials) (o .options-of .ensures)) (h .short .ensures) _ _ (c .before .before .place .given .1) (c .failed2 .ensures)
+    solve-short _ _ _ _ (m .before .before .read .ensures) _ _ _ (m .l .given .1) (ap (λ (o : Options). o .trials) (o .options-of .ensures)) (h .too-short .ensures) _ _ (c .before .before .place .given .1) (c .failed2 .ensures)
 
 returns-3 : tie.Need-returns-3
 returns-3 c =
@@ -45,7 +46,7 @@ returns-3 c =
     let h = e .before .before in
     let o = h .before in
     let m = o .before .before in
-    solve-runs _ _ _ _ (m .before .before .read .ensures) _ _ _ (m .net .given .1) (ap (λ (o : Options). o .trials) (o .options-of .ensures)) (h .short .ensures) _ (e .enum-told .given .1) (v .solved .ensures)
+    solve-runs _ _ _ _ (m .before .before .read .ensures) _ _ _ (m .l .given .1) (ap (λ (o : Options). o .trials) (o .options-of .ensures)) (h .too-short .ensures) _ (e .enum-told .given .1) (v .solved .ensures)
 
 read-requires : tie.Need-read-requires
 read-requires c κs = search needs
@@ -62,8 +63,8 @@ refusal-place-requires c κs = search needs
 failed-requires : tie.Need-failed-requires
 failed-requires c κs = search needs
 
-enum-known-net : tie.Need-enum-known-net
-enum-known-net c = search needs
+enum-known-l : tie.Need-enum-known-l
+enum-known-l c = search needs
 
 enum-known-place : tie.Need-enum-known-place
 enum-known-place c = search needs
@@ -101,9 +102,9 @@ solve-spec =
     refusal-number-requires
     refusal-place-requires
     failed-requires
-    enum-known-net
+    enum-known-l
     options-of-requires
-    short-requires
+    too-short-requires
     enum-known-place
     failed-requires-2
     enum-told

@@ -26,7 +26,7 @@ conclude-requires c κs =
     let net = network-of _ _ (start .pre .0) in
     let e = start .pre .1 .1 in
     let m = r .run .ensures .1 .0 in
-    (net .size, (net .ends, ((e .heads, e .demands, e .flows, e .statuses), (m .heads, m .demands, m .flows, m .statuses))))
+    (net .laid, (net .ends, ((e .heads, e .demands, e .flows, e .statuses), (m .heads, m .demands, m .flows, m .statuses))))
 
 returns : tie.Need-returns
 returns c =
@@ -38,7 +38,7 @@ returns c =
     let f = r .run .last .1 .1 .1 in
     let d = r .run .result in
     let out : List Float → Solved = λ x. record { answer = o .conclude .result; lent = lent (w .0) (w .1 .0) (w .1 .1 .0) (w .1 .1 .1 .0) (f .0) x } in
-    solved-of repairOf (a .sheet .now) (a .net) (a .trials) (lent (a .heads .now) (a .demands .now) (a .flows .now) (a .statuses .now) (a .entries .now) (a .scratch .now)) _ _ (start .pre .1 .0) (r .run .ensures .0) (ap out (r .run .ensures .1 .1) ∙ o .conclude .ensures .0 (d .grounded) (f .0) (a .entries .now) (a .scratch .now))
+    solved-of repairOf (a .sheet .now) (a .l) (a .trials) (lent (a .heads .now) (a .demands .now) (a .flows .now) (a .statuses .now) (a .entries .now) (a .scratch .now)) _ _ (start .pre .1 .0) (r .run .ensures .0) (ap out (r .run .ensures .1 .1) ∙ o .conclude .ensures .0 (d .grounded) (f .0) (a .entries .now) (a .scratch .now))
 
 slice-aggregate-conclude : tie.Need-slice-aggregate-conclude
 slice-aggregate-conclude c = search needs

@@ -1,28 +1,54 @@
 -- `state::start_links` meets its contract. Assumes nothing.
 use Rattle.state.proofs.Turns.{Links, no-links, next-link}
 use Rattle.state.specs.State.{flowsFrom, codesFrom}
+use borrow.Author.Needs.{needs}
 use native.Mathlib.Omega.{arith}
-use Prim.Native.Nat.{ℕ, _-_}
-use mathlib.Core.Path.{_≡_, ap, _∙_}
+use Prim.Native.Nat.{ℕ, suc, _+_, _*_, _-_, _≤_, _<_}
+use mathlib.Core.Path.{_≡_, refl, sym, ap, _∙_}
+use native.Mathlib.Numerals.{add-one}
+use lib.ListN.{length, getD, set, length-set}
 use Rattle.state.proofs.start_links.Statement.{statement}
 use Rattle.state.proofs.start_links.Tie as tie
+use Rattle.state.proofs.start_links.Reads as reads
+use Rattle.state.proofs.start_links.Lts as lts
+use Rattle.links.proofs.link.Reads as link-reads
+use Rattle.links.proofs.link_status.Reads as link-status-reads
 
 abbrev Inv-loop : tie.InvT-loop
-Inv-loop sheet nodes links flows₀ statuses₀ i₀ flows statuses i = Links sheet flows₀ statuses₀ flows statuses nodes links i
+Inv-loop sheet l flows₀ statuses₀ j₀ j-end flows statuses j = Links sheet l flows₀ statuses₀ flows statuses j
 
 abbrev μ-loop : tie.MeasureT-loop
-μ-loop sheet nodes links flows₀ statuses₀ i₀ flows statuses i = links - i
+μ-loop sheet l flows₀ statuses₀ j₀ j-end flows statuses j = l .links - j
 
 loop-holds : tie.Need-loop-holds Inv-loop μ-loop
-loop-holds c = no-links _ _ _ _ _
+loop-holds c = no-links _ _ _ _
+
+link-requires : tie.Need-link-requires Inv-loop μ-loop
+link-requires c κs = (c .before .before .before .before .before .pre .0, c .loop-test .taken)
+
+mul-flows : tie.Need-mul-flows Inv-loop μ-loop
+mul-flows c = omega arith
+
+slice-write-flows : tie.Need-slice-write-flows Inv-loop μ-loop
+slice-write-flows c = omega arith
+
+link-status-requires : tie.Need-link-status-requires Inv-loop μ-loop
+link-status-requires c κs = (c .before .before .before .before .before .before .pre .0, c .before .loop-test .taken)
+
+slice-write-statuses : tie.Need-slice-write-statuses Inv-loop μ-loop
+slice-write-statuses c = omega arith
+
+add-j : tie.Need-add-j Inv-loop μ-loop
+add-j c = omega arith
+
+loop-less : tie.Need-loop-less Inv-loop μ-loop
+loop-less c = omega arith
 
 loop-again : tie.Need-loop-again Inv-loop μ-loop
 loop-again c =
-    let b = c .before in
-    let o = b .before in
-    let t = o .before in
-    let l = t .before in
-    next-link _ _ _ _ _ _ _ _ (l .loop .inv) (t .loop-test .taken) _ _ (o .link-offset .ensures) (b .from-bytes .ensures)
+    let k = c .before in
+    let t = k .before in
+    next-link _ _ _ _ _ _ _ (t .before .loop .inv) (t .loop-test .taken) _ _ (k .link .ensures) (c .link-status .ensures)
 
 same-length : tie.Need-same-length Inv-loop μ-loop
 same-length c = c .before .loop .inv .flows-kept
@@ -32,10 +58,10 @@ same-length-2 c = c .before .loop .inv .codes-kept
 
 returns : tie.Need-returns Inv-loop μ-loop
 returns c =
-    let l = c .before in
-    let a = l .before .before .before .before .args in
-    let e : l .loop .i ≡ a .links = omega arith in
-    (l .loop .inv .flows ∙ ap (λ (k : ℕ). flowsFrom (a .sheet .now) (a .nodes) k (a .flows .now)) e, l .loop .inv .codes ∙ ap (λ (k : ℕ). codesFrom (a .sheet .now) (a .nodes) k (a .statuses .now)) e)
+    let o = c .before in
+    let a = o .before .before .before .before .args in
+    let e : o .loop .j ≡ a .l .links = omega (arith, o .loop .inv .upto, c .loop-test .left) in
+    (o .loop .inv .flows ∙ ap (λ (k : ℕ). flowsFrom (a .sheet .now) (a .l) k (a .flows .now)) e, o .loop .inv .codes ∙ ap (λ (k : ℕ). codesFrom (a .sheet .now) (a .l) k (a .statuses .now)) e)
 
 pub start-links-spec : {M : Type 1} → statement M
 start-links-spec =
@@ -44,16 +70,13 @@ start-links-spec =
     Inv-loop
     μ-loop
     loop-holds
-    (λ c κs. omega arith)
-    (λ c. omega arith)
-    (λ c κs. omega arith)
-    (λ c. omega arith)
-    (λ c. omega arith)
-    (λ c. omega arith)
-    (λ c. omega arith)
-    (λ c. omega arith)
-    (λ c. omega arith)
-    (λ c. omega arith)
+    link-requires
+    mul-flows
+    slice-write-flows
+    link-status-requires
+    slice-write-statuses
+    add-j
+    loop-less
     loop-again
     same-length
     same-length-2

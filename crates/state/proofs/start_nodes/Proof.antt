@@ -1,28 +1,52 @@
 -- `state::start_nodes` meets its contract. Assumes nothing.
 use Rattle.state.proofs.Turns.{Nodes, no-nodes, next-node}
 use Rattle.state.specs.State.{headsFrom, demandsFrom}
+use borrow.Author.Needs.{needs}
 use native.Mathlib.Omega.{arith}
-use Prim.Native.Nat.{ℕ, _-_}
-use mathlib.Core.Path.{_≡_, ap, _∙_}
+use Prim.Native.Nat.{ℕ, suc, _+_, _*_, _-_, _≤_, _<_}
+use mathlib.Core.Path.{_≡_, refl, sym, ap, _∙_}
+use native.Mathlib.Numerals.{add-one}
+use lib.ListN.{length, getD, set, length-set}
 use Rattle.state.proofs.start_nodes.Statement.{statement}
 use Rattle.state.proofs.start_nodes.Tie as tie
+use Rattle.state.proofs.start_nodes.Reads as reads
+use Rattle.state.proofs.start_nodes.Lts as lts
+use Rattle.nodes.proofs.node.Reads as node-reads
 
 abbrev Inv-loop : tie.InvT-loop
-Inv-loop sheet nodes heads₀ demands₀ i₀ heads demands i = Nodes sheet heads₀ demands₀ heads demands nodes i
+Inv-loop sheet l heads₀ demands₀ i₀ i-end heads demands i = Nodes sheet l heads₀ demands₀ heads demands i
 
 abbrev μ-loop : tie.MeasureT-loop
-μ-loop sheet nodes heads₀ demands₀ i₀ heads demands i = nodes - i
+μ-loop sheet l heads₀ demands₀ i₀ i-end heads demands i = l .nodes - i
 
 loop-holds : tie.Need-loop-holds Inv-loop μ-loop
 loop-holds c = no-nodes _ _ _ _
 
+node-requires : tie.Need-node-requires Inv-loop μ-loop
+node-requires c κs = (c .before .before .before .before .before .pre .0, c .loop-test .taken)
+
+mul-heads : tie.Need-mul-heads Inv-loop μ-loop
+mul-heads c = omega arith
+
+slice-write-heads : tie.Need-slice-write-heads Inv-loop μ-loop
+slice-write-heads c = omega arith
+
+mul-demands : tie.Need-mul-demands Inv-loop μ-loop
+mul-demands c = omega arith
+
+slice-write-demands : tie.Need-slice-write-demands Inv-loop μ-loop
+slice-write-demands c = omega arith
+
+add-i : tie.Need-add-i Inv-loop μ-loop
+add-i c = omega arith
+
+loop-less : tie.Need-loop-less Inv-loop μ-loop
+loop-less c = omega arith
+
 loop-again : tie.Need-loop-again Inv-loop μ-loop
 loop-again c =
-    let b = c .before in
-    let o = b .before in
-    let t = o .before in
-    let l = t .before in
-    next-node _ _ _ _ _ _ _ (l .loop .inv) (t .loop-test .taken) _ _ _ (o .node-offset .ensures) (b .from-bytes .ensures) (c .from-bytes2 .ensures)
+    let t = c .before in
+    next-node _ _ _ _ _ _ _ (t .before .loop .inv) (t .loop-test .taken) _ (c .node .ensures)
 
 same-length : tie.Need-same-length Inv-loop μ-loop
 same-length c = c .before .loop .inv .heads-kept
@@ -32,10 +56,10 @@ same-length-2 c = c .before .loop .inv .demands-kept
 
 returns : tie.Need-returns Inv-loop μ-loop
 returns c =
-    let l = c .before in
-    let a = l .before .before .before .before .args in
-    let e : l .loop .i ≡ a .nodes = omega arith in
-    (l .loop .inv .heads ∙ ap (λ (k : ℕ). headsFrom (a .sheet .now) k (a .heads .now)) e, l .loop .inv .demands ∙ ap (λ (k : ℕ). demandsFrom (a .sheet .now) k (a .demands .now)) e)
+    let o = c .before in
+    let a = o .before .before .before .before .args in
+    let e : o .loop .i ≡ a .l .nodes = omega (arith, o .loop .inv .upto, c .loop-test .left) in
+    (o .loop .inv .heads ∙ ap (λ (k : ℕ). headsFrom (a .sheet .now) (a .l) k (a .heads .now)) e, o .loop .inv .demands ∙ ap (λ (k : ℕ). demandsFrom (a .sheet .now) (a .l) k (a .demands .now)) e)
 
 pub start-nodes-spec : {M : Type 1} → statement M
 start-nodes-spec =
@@ -44,17 +68,13 @@ start-nodes-spec =
     Inv-loop
     μ-loop
     loop-holds
-    (λ c κs. omega arith)
-    (λ c. omega arith)
-    (λ c κs. omega arith)
-    (λ c. omega arith)
-    (λ c. omega arith)
-    (λ c. omega arith)
-    (λ c κs. omega arith)
-    (λ c. omega arith)
-    (λ c. omega arith)
-    (λ c. omega arith)
-    (λ c. omega arith)
+    node-requires
+    mul-heads
+    slice-write-heads
+    mul-demands
+    slice-write-demands
+    add-i
+    loop-less
     loop-again
     same-length
     same-length-2

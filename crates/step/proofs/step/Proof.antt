@@ -15,14 +15,14 @@ update-links-requires : tie.Need-update-links-requires
 update-links-requires c κs =
     let p = c .before .before .before .before .before in
     let start = p .before .before .before .before .before .before .before .before .before .before .before .before in
-    (omega (arith, start .pre .0 .size, start .pre .1 .1 .1 .heads, p .put-heads .kept), (start .pre .0 .ends, omega (arith, start .pre .1 .1 .0, start .pre .1 .1 .1 .flows, start .pre .1 .1 .1 .statuses)))
+    (start .pre .0 .laid, (start .pre .0 .ends, omega (arith, start .pre .1 .1 .1 .heads, p .put-heads .kept, start .pre .1 .1 .0, start .pre .1 .1 .1 .flows, start .pre .1 .1 .1 .statuses)))
 
 tank-links-requires : tie.Need-tank-links-requires
 tank-links-requires c κs =
     let u = c .before .before .before .before .before .before .before .before in
     let p = u .before .before .before .before .before .before in
     let start = p .before .before .before .before .before .before .before .before .before .before .before .before in
-    omega (arith, start .pre .0 .size, start .pre .1 .1 .1, p .put-heads .kept, u .update-links .kept)
+    (start .pre .0 .laid, omega (arith, start .pre .1 .1 .1, p .put-heads .kept, u .update-links .kept))
 
 wild-place-requires : tie.Need-wild-place-requires
 wild-place-requires c κs =
@@ -39,7 +39,7 @@ options-of-requires c κs =
     let u = t .before .before .before .before .before .before .before .before .before in
     let p = u .before .before .before .before .before .before in
     let start = p .before .before .before .before .before .before .before .before .before .before .before .before in
-    omega (arith, start .pre .0 .size)
+    omega (arith, start .pre .0 .laid .options, start .pre .0 .laid .nodes)
 
 returns : tie.Need-returns
 returns c =
@@ -47,7 +47,7 @@ returns c =
     let t = w .before .before .before .before .before .before .before in
     let u = t .before .before .before .before .before .before .before .before .before in
     let p = u .before .before .before .before .before .before in
-    step-of _ _ _ _ _ _ _ _ _ _ _ _ _ _ _ (p .put-heads .ensures) (u .update-links .ensures) (t .tank-links .ensures) (verdict-wild _ _ _ _ _ (sym (w .wild-place .ensures) ∙ c .before .place .given .1))
+    step-of _ _ _ _ _ _ _ _ _ _ _ _ _ _ (p .put-heads .ensures) (u .update-links .ensures) (t .tank-links .ensures) (verdict-wild _ _ _ _ _ (sym (w .wild-place .ensures) ∙ c .before .place .given .1))
 
 returns-2 : tie.Need-returns-2
 returns-2 c =
@@ -56,7 +56,7 @@ returns-2 c =
     let t = w .before .before .before .before .before .before .before in
     let u = t .before .before .before .before .before .before .before .before .before in
     let p = u .before .before .before .before .before .before in
-    step-of _ _ _ _ _ _ _ _ _ _ _ _ _ _ _ (p .put-heads .ensures) (u .update-links .ensures) (t .tank-links .ensures) (verdict-judged _ _ _ _ _ _ (sym (w .wild-place .ensures) ∙ o .before .enum-told .given .1) (o .options-of .ensures) (c .judge .ensures))
+    step-of _ _ _ _ _ _ _ _ _ _ _ _ _ _ (p .put-heads .ensures) (u .update-links .ensures) (t .tank-links .ensures) (verdict-judged _ _ _ _ _ _ (sym (w .wild-place .ensures) ∙ o .before .enum-told .given .1) (o .options-of .ensures) (c .judge .ensures))
 
 enum-known-place : tie.Need-enum-known-place
 enum-known-place c = search needs

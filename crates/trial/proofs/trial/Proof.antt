@@ -1,128 +1,136 @@
 -- `trial::trial` meets its contract: the calls in their order, put together by one law. Assumes nothing.
+use Prim.Native.Nat.{_≤_}
 use native.Mathlib.Omega.{arith}
-use mathlib.Core.Path.{_≡_}
+use mathlib.Core.Path.{_≡_, ap}
+use mathlib.Core.List.{List}
+use lib.Ieee.{Float}
 use borrow.Author.Needs.{needs}
 use Rattle.numbering.proofs.Numbers.{at-most}
 use Rattle.columns.specs.Columns.{zeros}
-use Rattle.assembly.specs.Assembly.{system}
+use Rattle.assembly.specs.Assembly.{System, system}
 use Rattle.state.specs.State.{State, state}
-use Rattle.trial.specs.Trial.{outcome, repairOf, systemOf}
-use Rattle.trial.proofs.Laws.{system-of, trial-stops, trial-steps, factors-left, unknown-below, failing-node, failing-below, repair-of}
+use Rattle.trial.specs.Trial.{outcome, repairOf, systemOf, factorsOf}
+use Rattle.trial.proofs.Laws.{system-of, trial-stops, trial-steps, factors-left, failing-below, repair-of}
 use Rattle.trial.proofs.trial.Statement.{statement}
 use Rattle.trial.proofs.trial.Tie as tie
 
+-- the places of a trial
+abbrev start-of : tie.After-excess-flows → tie.Start
+start-of e = e .before .before .before .before .before .before .before .before .before .before .before .before
+
+abbrev excess-of : tie.After-assemble → tie.After-excess-flows
+excess-of a = a .before .before .before .before .before .before .before .before .before .before .before .before
+
+abbrev assemble-of : tie.After-factor → tie.After-assemble
+assemble-of f = f .before .before .before .before .before .before .before
+
+-- the state before the trial, the system that was assembled, and that it is the state's
+module _ (a : tie.After-assemble) where
+  abbrev start : tie.Start
+  start = start-of (excess-of a)
+
+  abbrev was : State
+  was = let v = start .args in state (v .heads .now) (v .demands .now) (v .flows .now) (v .statuses .now) (v .grounded .now)
+
+  abbrev filled : System
+  filled = let x = a .assemble .last .1 .1 .1 .1 .1 .1 .1 .1 .1 .1 in system (x .0) (x .1 .0) (x .1 .1 .0) (x .1 .1 .1 .0)
+
+  assembled : filled ≡ systemOf (start .args .sheet .now) (start .args .l) was
+  unfolding zeros
+  assembled =
+      system-of (start .args .sheet .now) (start .args .l) was (start .args .scratch .now) (excess-of a .excess-flows .last .1 .1 .1 .1 .0) (filled .matrix) (filled .rhs) (filled .g) (filled .y) (start .pre .1 .1 .1 .1) (excess-of a .excess-flows .ensures) (a .assemble .ensures)
+
+  -- the matrix has room for the unknowns
+  few : start .args .l .unknowns ≤ 64
+  few = let v = start .args in omega (arith, start .pre .0 .nodes, start .pre .0 .unknowns, at-most (v .sheet .now) (v .l) (v .l .nodes))
+
 excess-flows-requires : tie.Need-excess-flows-requires
 excess-flows-requires c κs =
-    let start = c .before .before .before .before .before .before .before .before .before .before .before .before in
-    let room = start .pre .1 .1 .1 .1 .0 in
-    (omega (arith, start .pre .0 .size, start .pre .0 .nodes, room .demands, room .flows), start .pre .0 .ends)
+    let s = c .before .before .before .before .before .before .before .before .before .before .before in
+    let room = s .pre .1 .1 .1 .0 in
+    (s .pre .0 .laid, (s .pre .0 .ends, omega (arith, s .pre .0 .nodes, room .demands, room .flows)))
 
 assemble-requires : tie.Need-assemble-requires
 assemble-requires c κs =
     let e = c .before .before .before .before .before .before .before .before .before .before .before in
-    let start = e .before .before .before .before .before .before .before .before .before .before .before .before .before in
-    let net = start .pre .0 in
-    let room = start .pre .1 .1 .1 .1 .0 in (
+    let s = start-of e in
+    let net = s .pre .0 in
+    let room = s .pre .1 .1 .1 .0 in (
       record {
-        sheet = net .size;
+        laid = net .laid;
         few = net .nodes;
-        numbers = start .pre .1 .0 .1 .0;
+        links = net .links;
+        numbers = s .pre .1 .0 .0;
         heads = room .heads;
         excess = omega (arith, net .nodes, e .excess-flows .kept);
         flows = room .flows;
         statuses = room .statuses;
         ends = net .ends;
-        rows = start .pre .1 .1 .0 .0;
+        rows = s .pre .1 .0 .1;
       },
       (
-        record { matrix = start .pre .1 .1 .1 .1 .1; rhs = omega arith; g = omega (arith, net .links); y = omega (arith, net .links) },
-        ((room .demands, room .grounded), start .pre .1 .1 .1 .0),
+        record { matrix = s .pre .1 .1 .1 .1; rhs = omega arith; g = omega (arith, net .links); y = omega (arith, net .links) },
+        ((room .demands, room .grounded), s .pre .1 .1 .0),
       ),
     )
 
 factor-requires : tie.Need-factor-requires
-factor-requires c κs =
-    let a = c .before .before .before .before .before .before in
-    let e = a .before .before .before .before .before .before .before .before .before .before .before .before in
-    let start = e .before .before .before .before .before .before .before .before .before .before .before .before .before in
-    omega (arith, start .pre .1 .1 .1 .1 .1, start .pre .0 .nodes, start .pre .1 .0 .0, at-most (start .args .sheet .now) (start .args .nodes), a .assemble .kept)
+factor-requires c κs = let a = c .before .before .before .before .before .before in omega (arith, few a, start a .pre .1 .1 .1 .1, a .assemble .kept)
 
 node-of-requires : tie.Need-node-of-requires
-node-of-requires c κs =
-    let f = c .before .before .before .before .before in
-    let a = f .before .before .before .before .before .before .before in
-    let e = a .before .before .before .before .before .before .before .before .before .before .before .before in
-    let start = e .before .before .before .before .before .before .before .before .before .before .before .before .before in
-    let v = start .args in
-    omega (arith, unknown-below (v .sheet .now) (v .nodes) (v .count) (v .back .now) _ _ _ (start .pre .1 .0 .0) (f .factor .ensures .1) (c .before .u .given .1), start .pre .1 .0, at-most (v .sheet .now) (v .nodes))
+node-of-requires c κs = let s = start (assemble-of (c .before .before .before .before .before)) in s .pre .1 .0
 
 repair-requires : tie.Need-repair-requires
 repair-requires c κs =
     let w = c .before .before in
     let f = w .before .before .before .before .before .before in
-    let a = f .before .before .before .before .before .before .before in
-    let e = a .before .before .before .before .before .before .before .before .before .before .before .before in
-    let start = e .before .before .before .before .before .before .before .before .before .before .before .before .before in
-    let v = start .args in
-    let room = start .pre .1 .1 .1 .1 .0 in
-    omega (arith, start .pre .0 .size, room .statuses, room .grounded, failing-below (v .sheet .now) (v .nodes) (v .count) (v .back .now) _ _ _ (start .pre .1 .0 .0) (f .factor .ensures .1) (w .before .before .u .given .1) _ (start .pre .1 .1 .0 .1) (w .node-of .ensures))
+    let s = start (assemble-of f) in
+    let room = s .pre .1 .1 .1 .0 in
+    (s .pre .0 .laid, (room .statuses, omega (arith, room .grounded, failing-below (s .args .sheet .now) (s .args .l) _ _ _ _ (s .pre .0 .unknowns) (f .factor .ensures .1) (w .before .before .u .given .1) (w .node-of .ensures))))
 
 substitute-requires : tie.Need-substitute-requires
 substitute-requires c κs =
     let f = c .before .before .before .before .before .before in
-    let a = f .before .before .before .before .before .before .before in
-    let e = a .before .before .before .before .before .before .before .before .before .before .before .before in
-    let start = e .before .before .before .before .before .before .before .before .before .before .before .before .before in
-    omega (arith, start .pre .1 .1 .1 .1 .1, start .pre .0 .nodes, start .pre .1 .0 .0, at-most (start .args .sheet .now) (start .args .nodes), a .assemble .kept, f .factor .kept)
+    let a = assemble-of f in
+    omega (arith, few a, start a .pre .1 .1 .1 .1, a .assemble .kept, f .factor .kept)
 
 step-requires : tie.Need-step-requires
 step-requires c κs =
     let x = c .before .before .before .before .before .before .before .before .before in
-    let f = x .before .before .before .before .before .before .before in
-    let a = f .before .before .before .before .before .before .before in
-    let e = a .before .before .before .before .before .before .before .before .before .before .before .before in
-    let start = e .before .before .before .before .before .before .before .before .before .before .before .before .before in
-    let room = start .pre .1 .1 .1 .1 .0 in
-    (start .pre .0, ((start .pre .1 .0 .1 .0, start .pre .1 .1 .0 .0), (omega (arith, start .pre .0 .links, a .assemble .kept, x .substitute .kept), room)))
+    let a = assemble-of (x .before .before .before .before .before .before .before) in
+    let s = start a in
+    (s .pre .0, (s .pre .1 .0, (omega (arith, s .pre .0 .links, a .assemble .kept, x .substitute .kept), s .pre .1 .1 .1 .0)))
 
--- the state and the system of a trial, from what its first two calls ensure
+-- the factors that are left
+factors : (f : tie.After-factor) → f .factor .last .0 ≡ factorsOf (start (assemble-of f) .args .sheet .now) (start (assemble-of f) .args .l) (was (assemble-of f))
+factors f =
+    let a = assemble-of f in
+    factors-left (start a .args .sheet .now) (start a .args .l) (was a) (filled a .matrix) (filled a .rhs) (filled a .g) (filled a .y) (f .factor .last .0) (assembled a) (f .factor .ensures .0)
+
 returns : tie.Need-returns
-unfolding zeros
 returns c =
     let o = c .before .before .before .before in
     let w = o .before .before .before in
     let f = w .before .before .before .before .before .before in
-    let a = f .before .before .before .before .before .before .before in
-    let e = a .before .before .before .before .before .before .before .before .before .before .before .before in
-    let start = e .before .before .before .before .before .before .before .before .before .before .before .before .before in
-    let v = start .args in
-    let t : State = state (v .heads .now) (v .demands .now) (v .flows .now) (v .statuses .now) (v .grounded .now) in
-    let x = a .assemble .last .1 .1 .1 .1 .1 .1 .1 .1 .1 .1 .1 .1 in
-    let sys : system (x .0) (x .1 .0) (x .1 .1 .0) (x .1 .1 .1 .0) ≡ systemOf (v .sheet .now) (v .nodes) (v .links) t =
-    system-of (v .sheet .now) (v .nodes) (v .links) t (v .scratch .now) (e .excess-flows .last .1 .1 .1 .1 .1 .0) (x .0) (x .1 .0) (x .1 .1 .0) (x .1 .1 .1 .0) (start .pre .1 .1 .1 .1 .1) (e .excess-flows .ensures) (a .assemble .ensures) in
-    let stopped = w .before .before .u .given .1 in
-    let node = failing-node (v .sheet .now) (v .nodes) (v .count) (v .back .now) (x .0) (f .factor .result) _ (start .pre .1 .0 .0) (f .factor .ensures .1) stopped _ (start .pre .1 .1 .0 .1) (w .node-of .ensures) in (
-      trial-stops repairOf (v .sheet .now) (v .nodes) (v .links) (v .d) t (v .count) (start .pre .1 .0 .0) (x .0) (x .1 .0) (x .1 .1 .0) (x .1 .1 .1 .0) (f .factor .last .0) (f .factor .result) (outcome (o .repair .result) (state (v .heads .now) (v .demands .now) (v .flows .now) (o .repair .last .1 .1 .1 .0) (o .repair .last .1 .1 .1 .1 .0))) sys (f .factor .ensures .0) (f .factor .ensures .1) _ stopped (repair-of (v .sheet .now) (v .nodes) (v .links) t _ _ (o .repair .result) (o .repair .last .1 .1 .1 .0) (o .repair .last .1 .1 .1 .1 .0) node (o .repair .ensures)),
-      factors-left (v .sheet .now) (v .nodes) (v .links) t (v .count) (x .0) (x .1 .0) (x .1 .1 .0) (x .1 .1 .1 .0) (f .factor .last .0) (start .pre .1 .0 .0) sys (f .factor .ensures .0),
+    let a = assemble-of f in
+    let v = start a .args in
+    let z = o .repair .last .1 .1 in
+    let m = filled a in (
+      trial-stops repairOf (v .sheet .now) (v .l) (v .d) (was a) (m .matrix) (m .rhs) (m .g) (m .y) (f .factor .last .0) (f .factor .result) (outcome (o .repair .result) (state (v .heads .now) (v .demands .now) (v .flows .now) (z .0) (z .1 .0))) (assembled a) (f .factor .ensures .0) (f .factor .ensures .1) _ (w .before .before .u .given .1) (repair-of (v .sheet .now) (v .l) (was a) _ _ (o .repair .result) (z .0) (z .1 .0) (w .node-of .ensures) (o .repair .ensures)),
+      factors f,
     )
 
 returns-2 : tie.Need-returns-2
-unfolding zeros
 returns-2 c =
     let o = c .before .before .before .before .before .before .before .before in
     let z = o .before .before .before .before .before .before .before .before .before .before in
     let f = z .before .before .before .before .before .before .before in
-    let a = f .before .before .before .before .before .before .before in
-    let e = a .before .before .before .before .before .before .before .before .before .before .before .before in
-    let start = e .before .before .before .before .before .before .before .before .before .before .before .before .before in
-    let v = start .args in
-    let t : State = state (v .heads .now) (v .demands .now) (v .flows .now) (v .statuses .now) (v .grounded .now) in
-    let x = a .assemble .last .1 .1 .1 .1 .1 .1 .1 .1 .1 .1 .1 .1 in
-    let sys : system (x .0) (x .1 .0) (x .1 .1 .0) (x .1 .1 .1 .0) ≡ systemOf (v .sheet .now) (v .nodes) (v .links) t =
-    system-of (v .sheet .now) (v .nodes) (v .links) t (v .scratch .now) (e .excess-flows .last .1 .1 .1 .1 .1 .0) (x .0) (x .1 .0) (x .1 .1 .0) (x .1 .1 .1 .0) (start .pre .1 .1 .1 .1 .1) (e .excess-flows .ensures) (a .assemble .ensures) in
-    let h = o .step .last .1 .1 .1 .1 .1 .1 .1 .1 in (
-      trial-steps repairOf (v .sheet .now) (v .nodes) (v .links) (v .d) t (v .count) (start .pre .1 .0 .0) (x .0) (x .1 .0) (x .1 .1 .0) (x .1 .1 .1 .0) (f .factor .last .0) (f .factor .result) (outcome (o .step .result) (state (h .0) (h .1 .0) (h .1 .1 .0) (h .1 .1 .1 .0) (v .grounded .now))) sys (f .factor .ensures .0) (f .factor .ensures .1) _ (z .before .before .before .enum-told .given .1) (z .substitute .ensures) (o .step .ensures),
-      factors-left (v .sheet .now) (v .nodes) (v .links) t (v .count) (x .0) (x .1 .0) (x .1 .1 .0) (x .1 .1 .1 .0) (f .factor .last .0) (start .pre .1 .0 .0) sys (f .factor .ensures .0),
+    let a = assemble-of f in
+    let v = start a .args in
+    let m = filled a in
+    let h = o .step .last .1 .1 .1 .1 .1 .1 .1 in (
+      trial-steps repairOf (v .sheet .now) (v .l) (v .d) (was a) (m .matrix) (m .rhs) (m .g) (m .y) (f .factor .last .0) (f .factor .result) (outcome (o .step .result) (state (h .0) (h .1 .0) (h .1 .1 .0) (h .1 .1 .1 .0) (v .grounded .now))) (assembled a) (f .factor .ensures .0) (f .factor .ensures .1) _ (z .before .before .before .enum-told .given .1) (z .substitute .ensures) (o .step .ensures),
+      factors f,
     )
 
 slice-aggregate-excess-flows : tie.Need-slice-aggregate-excess-flows

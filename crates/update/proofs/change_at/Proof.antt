@@ -9,7 +9,7 @@ returns c =
     let t = c .before .before .before in
     let d = t .before in
     let u = d .before in
-    change-of _ _ _ _ _ _ _ _ _ (u .elevation .ensures) (d .elevation2 .ensures) (t .status-of .ensures) (c .updated .ensures)
+    change-of _ _ _ _ _ _ _ _ _ _ (u .elevation .ensures) (d .elevation2 .ensures) (t .status-of .ensures) (c .updated .ensures)
 
 pub change-at-spec : {M : Type 1} → statement M
 change-at-spec =

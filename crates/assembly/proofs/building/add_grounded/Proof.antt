@@ -14,13 +14,13 @@ use Rattle.assembly.proofs.building.ground.Reads as ground-reads
 use Rattle.numbering.proofs.unknown_of.Reads as unknown-of-reads
 
 abbrev Inv-loop : tie.InvT-loop
-Inv-loop sheet nodes grounded unknowns matrix₀ i₀ matrix i = (i ≤ nodes) × (matrix ≡ groundedOf sheet grounded i matrix₀) × (length matrix ≡ length matrix₀)
+Inv-loop sheet l unknowns grounded matrix₀ i₀ matrix i = (i ≤ l .nodes) × (matrix ≡ groundedOf sheet l grounded i matrix₀) × (length matrix ≡ length matrix₀)
 
 abbrev μ-loop : tie.MeasureT-loop
-μ-loop sheet nodes grounded unknowns matrix₀ i₀ matrix i = nodes - i
+μ-loop sheet l unknowns grounded matrix₀ i₀ matrix i = l .nodes - i
 
 loop-holds : tie.Need-loop-holds Inv-loop μ-loop
-loop-holds c = (omega arith, grounded-none _ _ _, refl)
+loop-holds c = (omega arith, grounded-none _ _ _ _, refl)
 
 unknown-of-requires : tie.Need-unknown-of-requires Inv-loop μ-loop
 unknown-of-requires c κs = omega arith
@@ -32,10 +32,10 @@ ground-requires : tie.Need-ground-requires Inv-loop μ-loop
 ground-requires c κs =
     let u = c .before .before in
     let t = u .before in
-    let l = t .before in
-    let s = l .before .before .before .before .before in
-    let row = u .unknown-of .ensures ∙ s .pre .1 .right (l .loop .i) (t .loop-test .taken) in
-    (omega (arith, s .pre .0, l .loop .inv .2), row-below _ _ _ _ row (t .loop-test .taken) (s .pre .0 .0))
+    let o = t .before .before in
+    let s = o .before .before .before .before .before in
+    let row = u .unknown-of .ensures ∙ s .pre .1 .right (o .loop .i) (t .if1 .taken) in
+    (omega (arith, s .pre .0, o .loop .inv .2), row-below _ _ _ _ _ row (t .if1 .taken) (s .pre .0 .0))
 
 add-i : tie.Need-add-i Inv-loop μ-loop
 add-i c = omega arith
@@ -48,20 +48,20 @@ loop-again c =
     let k = c .before .before in
     let u = k .before .before .before in
     let t = u .before in
-    let l = t .before in
-    let s = l .before .before .before .before .before in
-    let row = u .unknown-of .ensures ∙ s .pre .1 .right (l .loop .i) (t .loop-test .taken) in
-    (omega (arith, t .loop-test .taken), grounded-next _ _ _ _ _ _ _ row (l .loop .inv .1) (k .ground .ensures), omega (arith, k .ground .kept, l .loop .inv .2))
+    let o = t .before .before in
+    let s = o .before .before .before .before .before in
+    let row = u .unknown-of .ensures ∙ s .pre .1 .right (o .loop .i) (t .if1 .taken) in
+    (omega (arith, t .if1 .taken), grounded-next _ _ _ _ _ _ _ _ row (o .loop .inv .1) (k .ground .ensures), omega (arith, k .ground .kept, o .loop .inv .2))
 
 same-length : tie.Need-same-length Inv-loop μ-loop
-same-length c = c .before .loop .inv .2
+same-length c = c .before .before .loop .inv .2
 
 returns : tie.Need-returns Inv-loop μ-loop
 returns c =
-    let l = c .before in
-    let a = l .before .before .before .before .before .args in
-    let e : l .loop .i ≡ a .nodes = omega (arith, l .loop .inv .0, c .loop-test .left) in
-    l .loop .inv .1 ∙ ap (λ (k : ℕ). groundedOf (a .sheet .now) (a .grounded .now) k (a .matrix .now)) e
+    let o = c .before .before in
+    let a = o .before .before .before .before .before .args in
+    let e : o .loop .i ≡ a .l .nodes = omega (arith, o .loop .inv .0, c .if1 .left) in
+    o .loop .inv .1 ∙ ap (λ (k : ℕ). groundedOf (a .sheet .now) (a .l) (a .grounded .now) k (a .matrix .now)) e
 
 pub add-grounded-spec : {M : Type 1} → statement M
 add-grounded-spec =

@@ -1,6 +1,6 @@
 -- `assembly::building::add_links` meets its contract. Assumes nothing.
-use Rattle.assembly.proofs.Built.{Linked, links-none, links-next, given-less, sized-less, sized-kept}
-use Rattle.assembly.specs.Assembly.{columns, system, linksOf}
+use Rattle.assembly.proofs.Built.{Linked, links-none, links-next, sized-kept}
+use Rattle.assembly.specs.Assembly.{view, system, withLinks}
 use native.Mathlib.Omega.{arith}
 use Prim.Native.Nat.{ℕ, _-_}
 use mathlib.Core.Path.{_≡_, refl, ap, _∙_}
@@ -11,10 +11,10 @@ use Rattle.assembly.proofs.building.add_links.Lts as lts
 use Rattle.link_rows.proofs.add_link.Reads as add-link-reads
 
 abbrev Inv-loop : tie.InvT-loop
-Inv-loop sheet nodes links heads flows statuses excess unknowns a b matrix₀ rhs₀ g₀ y₀ i₀ matrix rhs g y i = Linked sheet nodes links (columns heads flows statuses excess) matrix₀ rhs₀ g₀ y₀ matrix rhs g y i
+Inv-loop sheet l unknowns table heads flows statuses excess matrix₀ rhs₀ g₀ y₀ j₀ j-end matrix rhs g y j = Linked sheet l (view heads flows statuses excess) matrix₀ rhs₀ g₀ y₀ matrix rhs g y j
 
 abbrev μ-loop : tie.MeasureT-loop
-μ-loop sheet nodes links heads flows statuses excess unknowns a b matrix₀ rhs₀ g₀ y₀ i₀ matrix rhs g y i = links - i
+μ-loop sheet l unknowns table heads flows statuses excess matrix₀ rhs₀ g₀ y₀ j₀ j-end matrix rhs g y j = l .links - j
 
 loop-holds : tie.Need-loop-holds Inv-loop μ-loop
 loop-holds c = record { upto = omega arith; made = links-none _ _ _ _; m-long = refl; r-long = refl; g-long = refl; y-long = refl }
@@ -22,13 +22,13 @@ loop-holds c = record { upto = omega arith; made = links-none _ _ _ _; m-long = 
 add-link-requires : tie.Need-add-link-requires Inv-loop μ-loop
 add-link-requires c κs =
     let t = c .before .before .before .before in
-    let l = t .before in
-    let s = l .before .before .before .before .before .before .before .before .before .before .before in
-    let v = l .loop .inv in
-    (given-less (s .pre .0) (l .loop .i) (t .loop-test .taken), (sized-less (sized-kept (s .pre .1 .0) (v .m-long) (v .r-long) (v .g-long) (v .y-long)) (l .loop .i) (t .loop-test .taken), s .pre .1 .1))
+    let o = t .before in
+    let s = o .before .before .before .before .before .before .before .before .before .before .before in
+    let v = o .loop .inv in
+    (s .pre .0, (sized-kept (s .pre .1 .0) (v .m-long) (v .r-long) (v .g-long) (v .y-long), (s .pre .1 .1, t .loop-test .taken)))
 
-add-i : tie.Need-add-i Inv-loop μ-loop
-add-i c = omega arith
+add-j : tie.Need-add-j Inv-loop μ-loop
+add-j c = omega arith
 
 loop-less : tie.Need-loop-less Inv-loop μ-loop
 loop-less c = omega arith
@@ -37,8 +37,7 @@ loop-again : tie.Need-loop-again Inv-loop μ-loop
 loop-again c =
     let k = c .before .before .before .before .before .before .before .before in
     let t = k .before .before .before .before .before in
-    let l = t .before in
-    let v = l .loop .inv in
+    let v = t .before .loop .inv in
     record {
       upto = omega (arith, t .loop-test .taken);
       made = links-next _ _ _ _ _ _ _ (v .made) (k .add-link .ensures);
@@ -62,10 +61,10 @@ same-length-4 c = c .before .loop .inv .y-long
 
 returns : tie.Need-returns Inv-loop μ-loop
 returns c =
-    let l = c .before in
-    let a = l .before .before .before .before .before .before .before .before .before .before .before .args in
-    let e : l .loop .i ≡ a .links = omega (arith, l .loop .inv .upto, c .loop-test .left) in
-    l .loop .inv .made ∙ ap (λ (k : ℕ). linksOf (a .sheet .now) (a .nodes) (columns (a .heads .now) (a .flows .now) (a .statuses .now) (a .excess .now)) k (system (a .matrix .now) (a .rhs .now) (a .g .now) (a .y .now))) e
+    let o = c .before in
+    let a = o .before .before .before .before .before .before .before .before .before .before .before .args in
+    let e : o .loop .j ≡ a .l .links = omega (arith, o .loop .inv .upto, c .loop-test .left) in
+    o .loop .inv .made ∙ ap (λ (k : ℕ). withLinks (a .sheet .now) (a .l) (view (a .heads .now) (a .flows .now) (a .statuses .now) (a .excess .now)) k (system (a .matrix .now) (a .rhs .now) (a .g .now) (a .y .now))) e
 
 pub add-links-spec : {M : Type 1} → statement M
 add-links-spec =
@@ -75,7 +74,7 @@ add-links-spec =
     μ-loop
     loop-holds
     add-link-requires
-    add-i
+    add-j
     loop-less
     loop-again
     same-length

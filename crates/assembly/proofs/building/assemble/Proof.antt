@@ -1,6 +1,6 @@
 -- `assembly::building::assemble` meets its contract. Assumes nothing.
 use Rattle.assembly.proofs.Built.{assembled}
-use Rattle.assembly.specs.Assembly.{columns}
+use Rattle.assembly.specs.Assembly.{view}
 use borrow.Author.Needs.{needs}
 use native.Mathlib.Omega.{arith}
 use Rattle.assembly.proofs.building.assemble.Statement.{statement}
@@ -76,7 +76,7 @@ returns c =
     let m1 = m2 .before .before .before .before in
     let s = m1 .before .before .before .before .before .before .before .before .before .before .before .before .before .before in
     let a = s .args in
-    assembled (a .sheet .now) (a .nodes) (a .links) (columns (a .heads .now) (a .flows .now) (a .statuses .now) (a .excess .now)) (a .demands .now) (a .grounded .now) _ _ _ _ _ _ _ _ _ _ _ _ (m1 .clear .ensures) (m2 .clear2 .ensures) (k .add-links .ensures) (d .take-demands .ensures) (e .add-grounded .ensures)
+    assembled (a .sheet .now) (a .l) (view (a .heads .now) (a .flows .now) (a .statuses .now) (a .excess .now)) (a .demands .now) (a .grounded .now) _ _ _ _ _ _ _ _ _ _ _ _ (m1 .clear .ensures) (m2 .clear2 .ensures) (k .add-links .ensures) (d .take-demands .ensures) (e .add-grounded .ensures)
 
 pub assemble-spec : {M : Type 1} → statement M
 assemble-spec =

@@ -10,17 +10,17 @@ add-kind c = search needs
 shared-slice-read-kind : tie.Need-shared-slice-read-kind
 shared-slice-read-kind c = search needs
 
-add-short : tie.Need-add-short
-add-short c = search needs
+add-pair-at : tie.Need-add-pair-at
+add-pair-at c = search needs
 
-short-requires : tie.Need-short-requires
-short-requires c κs = search needs
+pair-at-requires : tie.Need-pair-at-requires
+pair-at-requires c κs = search needs
 
-add-short-2 : tie.Need-add-short-2
-add-short-2 c = search needs
+add-pair-at-2 : tie.Need-add-pair-at-2
+add-pair-at-2 c = search needs
 
-short-requires-2 : tie.Need-short-requires-2
-short-requires-2 c κs = search needs
+pair-at-requires-2 : tie.Need-pair-at-requires-2
+pair-at-requires-2 c κs = search needs
 
 in-service-requires : tie.Need-in-service-requires
 in-service-requires c κs = search needs
@@ -34,7 +34,7 @@ returns c =
     let n = x .before in
     let m = n .before in
     let a = m .before .before .before .args in
-    ends-good (a .sheet .now) (a .at) _ _ _ _ (m .short .ensures) (n .short2 .ensures) (x .in-service .ensures) (c .in-service2 .ensures)
+    ends-good (a .sheet .now) (a .l) (a .at) _ _ _ _ (m .pair-at .ensures) (n .pair-at2 .ensures) (x .in-service .ensures) (c .in-service2 .ensures)
 
 pub ends-good-spec : {M : Type 1} → statement M
 ends-good-spec =
@@ -42,10 +42,10 @@ ends-good-spec =
     (tie.spec
     add-kind
     shared-slice-read-kind
-    add-short
-    short-requires
-    add-short-2
-    short-requires-2
+    add-pair-at
+    pair-at-requires
+    add-pair-at-2
+    pair-at-requires-2
     in-service-requires
     in-service-requires-2
     returns)

@@ -22,22 +22,22 @@ add-result-3 c = search needs
 shared-slice-read-result-3 : tie.Need-shared-slice-read-result-3
 shared-slice-read-result-3 c = search needs
 
-add-short : tie.Need-add-short
-add-short c = search needs
+add-pair-at : tie.Need-add-pair-at
+add-pair-at c = search needs
 
-short-requires : tie.Need-short-requires
-short-requires c κs = search needs
+pair-at-requires : tie.Need-pair-at-requires
+pair-at-requires c κs = search needs
 
-add-short-2 : tie.Need-add-short-2
-add-short-2 c = search needs
+add-pair-at-2 : tie.Need-add-pair-at-2
+add-pair-at-2 c = search needs
 
-short-requires-2 : tie.Need-short-requires-2
-short-requires-2 c κs = search needs
+pair-at-requires-2 : tie.Need-pair-at-requires-2
+pair-at-requires-2 c κs = search needs
 
 returns : tie.Need-returns
 returns c =
     let a = c .before .before .before .before .before .before .args in
-    link-codes (a .sheet .now) (a .nodes) (a .at) _ _ (c .before .short .ensures) (c .short2 .ensures)
+    link-codes (a .sheet .now) (a .nodes) (a .at) _ _ (c .before .pair-at .ensures) (c .pair-at2 .ensures)
 
 pub link-codes-spec : {M : Type 1} → statement M
 link-codes-spec =
@@ -49,8 +49,8 @@ link-codes-spec =
     shared-slice-read-result-2
     add-result-3
     shared-slice-read-result-3
-    add-short
-    short-requires
-    add-short-2
-    short-requires-2
+    add-pair-at
+    pair-at-requires
+    add-pair-at-2
+    pair-at-requires-2
     returns)

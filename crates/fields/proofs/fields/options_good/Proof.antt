@@ -5,8 +5,8 @@ use Rattle.fields.proofs.Made.{options-good}
 use Rattle.fields.proofs.fields.options_good.Statement.{statement}
 use Rattle.fields.proofs.fields.options_good.Tie as tie
 
-short-requires : tie.Need-short-requires
-short-requires c κs = search needs
+pair-at-requires : tie.Need-pair-at-requires
+pair-at-requires c κs = search needs
 
 all-within-requires : tie.Need-all-within-requires
 all-within-requires c κs = search needs
@@ -34,13 +34,13 @@ returns c =
     let r = x .before in
     let t = r .before in
     let a = t .before .before .args in
-    options-good (a .sheet .now) (a .b) _ _ _ _ _ (r .all-within .ensures) (x .from-bytes .ensures) (y .from-bytes2 .ensures) (z .from-bytes3 .ensures) (t .short .ensures)
+    options-good (a .sheet .now) (a .b) _ _ _ _ _ (r .all-within .ensures) (x .from-bytes .ensures) (y .from-bytes2 .ensures) (z .from-bytes3 .ensures) (t .pair-at .ensures)
 
 pub options-good-spec : {M : Type 1} → statement M
 options-good-spec =
     tie.close
     (tie.spec
-    short-requires
+    pair-at-requires
     all-within-requires
     from-bytes-requires
     from-bytes-requires-2

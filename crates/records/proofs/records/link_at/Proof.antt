@@ -28,17 +28,17 @@ shared-slice-read-status-of c = search needs
 status-of-requires : tie.Need-status-of-requires
 status-of-requires c κs = search needs
 
-add-short : tie.Need-add-short
-add-short c = search needs
+add-pair-at : tie.Need-add-pair-at
+add-pair-at c = search needs
 
-short-requires : tie.Need-short-requires
-short-requires c κs = search needs
+pair-at-requires : tie.Need-pair-at-requires
+pair-at-requires c κs = search needs
 
-add-short-2 : tie.Need-add-short-2
-add-short-2 c = search needs
+add-pair-at-2 : tie.Need-add-pair-at-2
+add-pair-at-2 c = search needs
 
-short-requires-2 : tie.Need-short-requires-2
-short-requires-2 c κs = search needs
+pair-at-requires-2 : tie.Need-pair-at-requires-2
+pair-at-requires-2 c κs = search needs
 
 add-from-bytes : tie.Need-add-from-bytes
 add-from-bytes c = search needs
@@ -81,7 +81,7 @@ returns c =
     let t = m .before in
     let k = t .before .before .before in
     let a = k .before .before .before .args in
-    link (a .sheet .now) (a .at) _ _ _ _ _ _ _ _ _ (k .link-kind .ensures) (t .status-of .ensures) (m .short .ensures) (n .short2 .ensures) (v .from-bytes .ensures) (w .from-bytes2 .ensures) (x .from-bytes3 .ensures) (y .from-bytes4 .ensures) (c .from-bytes5 .ensures)
+    link (a .sheet .now) (a .at) _ _ _ _ _ _ _ _ _ (k .link-kind .ensures) (t .status-of .ensures) (m .pair-at .ensures) (n .pair-at2 .ensures) (v .from-bytes .ensures) (w .from-bytes2 .ensures) (x .from-bytes3 .ensures) (y .from-bytes4 .ensures) (c .from-bytes5 .ensures)
 
 pub link-at-spec : {M : Type 1} → statement M
 link-at-spec =
@@ -95,10 +95,10 @@ link-at-spec =
     add-status-of
     shared-slice-read-status-of
     status-of-requires
-    add-short
-    short-requires
-    add-short-2
-    short-requires-2
+    add-pair-at
+    pair-at-requires
+    add-pair-at-2
+    pair-at-requires-2
     add-from-bytes
     from-bytes-requires
     add-from-bytes-2

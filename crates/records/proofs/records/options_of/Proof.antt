@@ -14,8 +14,8 @@ from-bytes-requires-2 c κs = search needs
 from-bytes-requires-3 : tie.Need-from-bytes-requires-3
 from-bytes-requires-3 c κs = search needs
 
-short-requires : tie.Need-short-requires
-short-requires c κs = search needs
+pair-at-requires : tie.Need-pair-at-requires
+pair-at-requires c κs = search needs
 
 shared-slice-read-t7 : tie.Need-shared-slice-read-t7
 shared-slice-read-t7 c = search needs
@@ -29,7 +29,7 @@ returns c =
     let z = t .before in
     let y = z .before in
     let x = y .before in
-    options (x .before .before .args .sheet .now) _ _ _ _ (x .from-bytes .ensures) (y .from-bytes2 .ensures) (z .from-bytes3 .ensures) (t .short .ensures)
+    options (x .before .before .args .sheet .now) _ _ _ _ (x .from-bytes .ensures) (y .from-bytes2 .ensures) (z .from-bytes3 .ensures) (t .pair-at .ensures)
 
 pub options-of-spec : {M : Type 1} → statement M
 options-of-spec =
@@ -38,7 +38,7 @@ options-of-spec =
     from-bytes-requires
     from-bytes-requires-2
     from-bytes-requires-3
-    short-requires
+    pair-at-requires
     shared-slice-read-t7
     cast-t8
     returns)

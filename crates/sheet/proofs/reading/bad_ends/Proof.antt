@@ -1,9 +1,11 @@
 -- `sheet::reading::bad_ends` meets its contract: what is left to search answers for the whole. Assumes nothing.
-use mathlib.Core.Path.{_≡_, ap, sym, subst}
+use mathlib.Core.Path.{_≡_, _∙_, ap, sym, subst}
 use Prim.Native.Nat.{ℕ, _+_, _-_, _≤_, _<_}
 use native.Mathlib.Omega.{arith}
-use Rattle.records.specs.Offsets.{linkOffset}
-use Rattle.records.specs.Records.{shortAt}
+use Rattle.layout.specs.Places.{linkPlace}
+use Rattle.layout.proofs.Laws.{link-within, link-next, link-first}
+use Rattle.records.specs.Records.{pairAt}
+use Rattle.links.specs.Links.{linkStart, linkEnd}
 use Rattle.ends.specs.Ends.{endsGood}
 use Rattle.sheet.specs.Read.{firstBad, badEnds}
 use Rattle.sheet.proofs.Laws.{search-end, search-bad, search-on}
@@ -11,41 +13,45 @@ use Rattle.sheet.proofs.reading.bad_ends.Statement.{statement}
 use Rattle.sheet.proofs.reading.bad_ends.Tie as tie
 
 abbrev Inv-loop : tie.InvT-loop
-Inv-loop sheet nodes links i₀ i = (firstBad (endsGood sheet) 49 (links - i) (linkOffset nodes i) ≡ badEnds nodes links sheet) × (i ≤ links)
+Inv-loop sheet l j₀ j-end j = (firstBad (endsGood l sheet) (l .stride) (l .links - j) (linkPlace l j) ≡ badEnds l sheet) × (j ≤ l .links)
 
 abbrev μ-loop : tie.MeasureT-loop
-μ-loop sheet nodes links i₀ i = links - i
+μ-loop sheet l j₀ j-end j = l .links - j
 
 loop-holds : tie.Need-loop-holds Inv-loop μ-loop
 unfolding badEnds
 loop-holds c =
     let a = c .before .args in
-    let e : a .links - 0 ≡ a .links = omega arith in
-    (ap (λ (k : ℕ). firstBad (endsGood (a .sheet .now)) 49 k (linkOffset (a .nodes) 0)) e, omega arith)
+    let e : a .l .links - 0 ≡ a .l .links = omega arith in
+    (ap (λ (k : ℕ). firstBad (endsGood (a .l) (a .sheet .now)) (a .l .stride) k (linkPlace (a .l) 0)) e ∙ ap (firstBad (endsGood (a .l) (a .sheet .now)) (a .l .stride) (a .l .links)) (link-first (a .l)), omega arith)
 
-link-offset-requires : tie.Need-link-offset-requires Inv-loop μ-loop
-link-offset-requires c κs = omega arith
+link-place-requires : tie.Need-link-place-requires Inv-loop μ-loop
+link-place-requires c κs = let o = c .before in omega (arith, link-within _ _ _ (o .before .before .pre .0) (c .loop-test .taken))
 
 ends-good-requires : tie.Need-ends-good-requires Inv-loop μ-loop
+unfolding linkStart linkEnd
 ends-good-requires c κs =
-    let l = c .before .before in
-    let a = l .before .before .args in
-    let p = l .before .before .pre in
-    let e = sym (c .link-offset .ensures) in
-    let i = l .loop .i in (
-      (omega (arith, e), omega arith),
-      (subst (λ (k : ℕ). shortAt (a .sheet .now) (k + 5) < a .nodes) e (p .1 .start i (c .before .loop-test .taken)), subst (λ (k : ℕ). shortAt (a .sheet .now) (k + 7) < a .nodes) e (p .1 .end i (c .before .loop-test .taken))),
+    let o = c .before .before in
+    let a = o .before .before .args in
+    let p = o .before .before .pre in
+    let more = c .before .loop-test .taken in
+    let e = sym (c .link-place .ensures) in (
+      p .0,
+      (
+        omega (arith, e, link-within _ _ _ (p .0) more),
+        (subst (λ (k : ℕ). pairAt (a .sheet .now) (k + 5) < a .l .nodes) e (p .1 .start _ more), subst (λ (k : ℕ). pairAt (a .sheet .now) (k + 7) < a .l .nodes) e (p .1 .end _ more)),
+      ),
     )
 
 returns : tie.Need-returns Inv-loop μ-loop
 returns c =
     let t = c .before in
-    let l = t .before .before .before in
-    let a = l .before .before .args in
-    search-bad (endsGood (a .sheet .now)) 49 (a .links) (l .loop .i) (linkOffset (a .nodes) (l .loop .i)) _ (l .loop .inv .0) _ _ (t .before .link-offset .ensures) (t .ends-good .ensures) (t .before .before .loop-test .taken) (c .if1 .taken)
+    let o = t .before .before .before in
+    let a = o .before .before .args in
+    search-bad (endsGood (a .l) (a .sheet .now)) (a .l .stride) (a .l .links) (o .loop .j) (linkPlace (a .l) (o .loop .j)) _ (o .loop .inv .0) _ _ (t .before .link-place .ensures) (t .ends-good .ensures) (t .before .before .loop-test .taken) (c .if1 .taken)
 
-add-i : tie.Need-add-i Inv-loop μ-loop
-add-i c = omega arith
+add-j : tie.Need-add-j Inv-loop μ-loop
+add-j c = omega arith
 
 loop-less : tie.Need-loop-less Inv-loop μ-loop
 loop-less c = omega arith
@@ -53,17 +59,17 @@ loop-less c = omega arith
 loop-again : tie.Need-loop-again Inv-loop μ-loop
 loop-again c =
     let t = c .before in
-    let l = t .before .before .before in
-    let a = l .before .before .args in
-    (search-on (endsGood (a .sheet .now)) 49 (a .links) (l .loop .i) (linkOffset (a .nodes) (l .loop .i)) _ (l .loop .inv .0) _ _ (t .before .link-offset .ensures) (t .ends-good .ensures) (t .before .before .loop-test .taken) _ (c .if1 .left) (omega arith), omega arith)
+    let o = t .before .before .before in
+    let a = o .before .before .args in
+    (search-on (endsGood (a .l) (a .sheet .now)) (a .l .stride) (a .l .links) (o .loop .j) (linkPlace (a .l) (o .loop .j)) _ (o .loop .inv .0) _ _ (t .before .link-place .ensures) (t .ends-good .ensures) (t .before .before .loop-test .taken) _ (c .if1 .left) (link-next (a .l) (o .loop .j)), omega arith)
 
 returns-2 : tie.Need-returns-2 Inv-loop μ-loop
 returns-2 c =
-    let l = c .before in
-    let a = l .before .before .args in
-    search-end (endsGood (a .sheet .now)) 49 (a .links) (l .loop .i) (linkOffset (a .nodes) (l .loop .i)) _ (l .loop .inv .0) (c .loop-test .left)
+    let o = c .before in
+    let a = o .before .before .args in
+    search-end (endsGood (a .l) (a .sheet .now)) (a .l .stride) (a .l .links) (o .loop .j) (linkPlace (a .l) (o .loop .j)) _ (o .loop .inv .0) (c .loop-test .left)
 
 pub bad-ends-spec : {M : Type 1} → statement M
 bad-ends-spec =
     tie.close
-    (tie.spec Inv-loop μ-loop loop-holds link-offset-requires ends-good-requires returns add-i loop-less loop-again returns-2)
+    (tie.spec Inv-loop μ-loop loop-holds link-place-requires ends-good-requires returns add-j loop-less loop-again returns-2)

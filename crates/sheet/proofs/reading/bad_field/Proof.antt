@@ -1,19 +1,20 @@
 -- `sheet::reading::bad_field` meets its contract. Assumes nothing.
 use mathlib.Core.Path.{sym, _∙_}
 use borrow.Author.Needs.{needs}
+use native.Mathlib.Omega.{arith}
 use borrow.Author.Tests.{not-true, not-false}
 use Rattle.sheet.proofs.Readings.{field-options, field-node, field-link}
 use Rattle.sheet.proofs.reading.bad_field.Statement.{statement}
 use Rattle.sheet.proofs.reading.bad_field.Tie as tie
 
 options-good-requires : tie.Need-options-good-requires
-options-good-requires c κs = search needs
+options-good-requires c κs = omega (arith, c .before .pre .options, c .before .pre .nodes)
 
 returns : tie.Need-returns
 returns c =
     let o = c .before in
     let a = o .before .before .args in
-    sym (field-options (a .b) (a .nodes) (a .links) (a .sheet .now) (sym (o .options-good .ensures) ∙ not-true _ (c .if1 .taken)))
+    sym (field-options (a .b) (a .l) (a .sheet .now) (sym (o .options-good .ensures) ∙ not-true _ (c .if1 .taken)))
 
 bad-node-requires : tie.Need-bad-node-requires
 bad-node-requires c κs = search needs
@@ -33,14 +34,14 @@ returns-2 c =
     let n = t .before .before in
     let o = n .before .before in
     let a = o .before .before .args in
-    c .bad-link .ensures ∙ sym (field-link (a .b) (a .nodes) (a .links) (a .sheet .now) (sym (o .options-good .ensures) ∙ not-false _ (n .before .if1 .left)) (sym (n .bad-node .ensures) ∙ t .enum-told .given .1))
+    c .bad-link .ensures ∙ sym (field-link (a .b) (a .l) (a .sheet .now) (sym (o .options-good .ensures) ∙ not-false _ (n .before .if1 .left)) (sym (n .bad-node .ensures) ∙ t .enum-told .given .1))
 
 returns-3 : tie.Need-returns-3
 returns-3 c =
     let n = c .before .before .before in
     let o = n .before .before in
     let a = o .before .before .args in
-    sym (field-node (a .b) (a .nodes) (a .links) (a .sheet .now) _ (sym (o .options-good .ensures) ∙ not-false _ (n .before .if1 .left)) (sym (n .bad-node .ensures) ∙ c .before .at .given .1))
+    sym (field-node (a .b) (a .l) (a .sheet .now) _ (sym (o .options-good .ensures) ∙ not-false _ (n .before .if1 .left)) (sym (n .bad-node .ensures) ∙ c .before .at .given .1))
 
 pub bad-field-spec : {M : Type 1} → statement M
 bad-field-spec =

@@ -1,29 +1,17 @@
 -- `tables::tables::entry_a` meets its contract. Assumes nothing.
-use mathlib.Core.Path.{ap, sym, subst}
-use mathlib.Core.Bool.{not}
-use mathlib.Core.List.{List}
-use Prim.Native.Nat.{ℕ}
-use lib.Dec.{T}
-use lib.ListN.{getD}
-use lib.Ieee.{binary64, ofBits, nanBits}
+use mathlib.Core.Path.{ap}
+use lib.Ieee.{binary64, ofBits}
 use borrow.Author.Needs.{needs}
 use Rattle.tables.proofs.Test.{plainA}
+use Rattle.tables.proofs.Lent.{in-a}
 use Rattle.tables.proofs.tables.entry_a.Statement.{statement}
 use Rattle.tables.proofs.tables.entry_a.Tie as tie
 
-mul-result : tie.Need-mul-result
-mul-result c = search needs
-
-element-copy-out-result : tie.Need-element-copy-out-result
-element-copy-out-result c = search needs
-
 float-from-bits-result : tie.Need-float-from-bits-result
-float-from-bits-result c =
-    let i = c .before .args .i in
-    subst (λ (l : List ℕ). T (not (nanBits binary64 (getD l i 0)))) (sym (c .before .pre .0)) (plainA i (c .before .pre .1))
+float-from-bits-result c = rw (in-a (c .before .pre .0) _ (c .before .pre .1)) (plainA _ (c .before .pre .1))
 
 returns : tie.Need-returns
-returns c = ap (λ (l : List ℕ). ofBits binary64 (getD l (c .before .args .i) 0)) (c .before .pre .0)
+returns c = ap (ofBits binary64) (in-a (c .before .pre .0) _ (c .before .pre .1))
 
 pub entry-a-spec : {M : Type 1} → statement M
-entry-a-spec = tie.close (tie.spec mul-result element-copy-out-result float-from-bits-result returns)
+entry-a-spec = tie.close (tie.spec (λ c. search needs) (λ c. search needs) float-from-bits-result returns)

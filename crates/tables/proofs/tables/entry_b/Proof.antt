@@ -1,29 +1,17 @@
 -- `tables::tables::entry_b` meets its contract. Assumes nothing.
-use mathlib.Core.Path.{ap, sym, subst}
-use mathlib.Core.Bool.{not}
-use mathlib.Core.List.{List}
-use Prim.Native.Nat.{ℕ}
-use lib.Dec.{T}
-use lib.ListN.{getD}
-use lib.Ieee.{binary64, ofBits, nanBits}
+use mathlib.Core.Path.{ap}
+use lib.Ieee.{binary64, ofBits}
 use borrow.Author.Needs.{needs}
 use Rattle.tables.proofs.Test.{plainB}
+use Rattle.tables.proofs.Lent.{in-b}
 use Rattle.tables.proofs.tables.entry_b.Statement.{statement}
 use Rattle.tables.proofs.tables.entry_b.Tie as tie
 
-mul-result : tie.Need-mul-result
-mul-result c = search needs
-
-element-copy-out-result : tie.Need-element-copy-out-result
-element-copy-out-result c = search needs
-
 float-from-bits-result : tie.Need-float-from-bits-result
-float-from-bits-result c =
-    let i = c .before .args .j in
-    subst (λ (l : List ℕ). T (not (nanBits binary64 (getD l i 0)))) (sym (c .before .pre .0)) (plainB i (c .before .pre .1))
+float-from-bits-result c = rw (in-b (c .before .pre .0) _) (plainB _ (c .before .pre .1))
 
 returns : tie.Need-returns
-returns c = ap (λ (l : List ℕ). ofBits binary64 (getD l (c .before .args .j) 0)) (c .before .pre .0)
+returns c = ap (ofBits binary64) (in-b (c .before .pre .0) _)
 
 pub entry-b-spec : {M : Type 1} → statement M
-entry-b-spec = tie.close (tie.spec mul-result element-copy-out-result float-from-bits-result returns)
+entry-b-spec = tie.close (tie.spec (λ c. search needs) (λ c. search needs) (λ c. search needs) float-from-bits-result returns)

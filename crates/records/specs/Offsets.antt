@@ -1,2 +1,0 @@
--- Where the records of a sheet stand, from crate offsets.
-pub use Rattle.offsets.specs.Offsets.{nodeOffset, linkOffset}
