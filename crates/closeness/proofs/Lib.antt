@@ -1,0 +1,11 @@
+pub mod Means
+pub mod Chord
+pub mod Tests
+pub mod Curve
+pub mod Rounding
+pub mod Values
+pub mod Bounds
+pub mod Roundings
+pub mod Powers
+pub mod Range
+pub mod Theorem
