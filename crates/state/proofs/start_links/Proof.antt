@@ -1,18 +1,11 @@
 -- `state::start_links` meets its contract. Assumes nothing.
 use Rattle.state.proofs.Turns.{Links, no-links, next-link}
 use Rattle.state.specs.State.{flowsFrom, codesFrom}
-use borrow.Author.Needs.{needs}
 use native.Mathlib.Omega.{arith}
-use Prim.Native.Nat.{ℕ, suc, _+_, _*_, _-_, _≤_, _<_}
-use mathlib.Core.Path.{_≡_, refl, sym, ap, _∙_}
-use native.Mathlib.Numerals.{add-one}
-use lib.ListN.{length, getD, set, length-set}
+use Prim.Native.Nat.{ℕ, _-_}
+use mathlib.Core.Path.{_≡_, ap, _∙_}
 use Rattle.state.proofs.start_links.Statement.{statement}
 use Rattle.state.proofs.start_links.Tie as tie
-use Rattle.state.proofs.start_links.Reads as reads
-use Rattle.state.proofs.start_links.Lts as lts
-use Rattle.links.proofs.link.Reads as link-reads
-use Rattle.links.proofs.link_status.Reads as link-status-reads
 
 abbrev Inv-loop : tie.InvT-loop
 Inv-loop sheet l flows₀ statuses₀ j₀ j-end flows statuses j = Links sheet l flows₀ statuses₀ flows statuses j
@@ -26,23 +19,8 @@ loop-holds c = no-links _ _ _ _
 link-requires : tie.Need-link-requires Inv-loop μ-loop
 link-requires c κs = (c .before .before .before .before .before .pre .0, c .loop-test .taken)
 
-mul-flows : tie.Need-mul-flows Inv-loop μ-loop
-mul-flows c = omega arith
-
-slice-write-flows : tie.Need-slice-write-flows Inv-loop μ-loop
-slice-write-flows c = omega arith
-
 link-status-requires : tie.Need-link-status-requires Inv-loop μ-loop
 link-status-requires c κs = (c .before .before .before .before .before .before .pre .0, c .before .loop-test .taken)
-
-slice-write-statuses : tie.Need-slice-write-statuses Inv-loop μ-loop
-slice-write-statuses c = omega arith
-
-add-j : tie.Need-add-j Inv-loop μ-loop
-add-j c = omega arith
-
-loop-less : tie.Need-loop-less Inv-loop μ-loop
-loop-less c = omega arith
 
 loop-again : tie.Need-loop-again Inv-loop μ-loop
 loop-again c =
@@ -71,12 +49,12 @@ start-links-spec =
     μ-loop
     loop-holds
     link-requires
-    mul-flows
-    slice-write-flows
+    (λ c. omega arith)
+    (λ c. omega arith)
     link-status-requires
-    slice-write-statuses
-    add-j
-    loop-less
+    (λ c. omega arith)
+    (λ c. omega arith)
+    (λ c. omega arith)
     loop-again
     same-length
     same-length-2

@@ -1,17 +1,11 @@
 -- `state::start_nodes` meets its contract. Assumes nothing.
 use Rattle.state.proofs.Turns.{Nodes, no-nodes, next-node}
 use Rattle.state.specs.State.{headsFrom, demandsFrom}
-use borrow.Author.Needs.{needs}
 use native.Mathlib.Omega.{arith}
-use Prim.Native.Nat.{ℕ, suc, _+_, _*_, _-_, _≤_, _<_}
-use mathlib.Core.Path.{_≡_, refl, sym, ap, _∙_}
-use native.Mathlib.Numerals.{add-one}
-use lib.ListN.{length, getD, set, length-set}
+use Prim.Native.Nat.{ℕ, _-_}
+use mathlib.Core.Path.{_≡_, ap, _∙_}
 use Rattle.state.proofs.start_nodes.Statement.{statement}
 use Rattle.state.proofs.start_nodes.Tie as tie
-use Rattle.state.proofs.start_nodes.Reads as reads
-use Rattle.state.proofs.start_nodes.Lts as lts
-use Rattle.nodes.proofs.node.Reads as node-reads
 
 abbrev Inv-loop : tie.InvT-loop
 Inv-loop sheet l heads₀ demands₀ i₀ i-end heads demands i = Nodes sheet l heads₀ demands₀ heads demands i
@@ -24,24 +18,6 @@ loop-holds c = no-nodes _ _ _ _
 
 node-requires : tie.Need-node-requires Inv-loop μ-loop
 node-requires c κs = (c .before .before .before .before .before .pre .0, c .loop-test .taken)
-
-mul-heads : tie.Need-mul-heads Inv-loop μ-loop
-mul-heads c = omega arith
-
-slice-write-heads : tie.Need-slice-write-heads Inv-loop μ-loop
-slice-write-heads c = omega arith
-
-mul-demands : tie.Need-mul-demands Inv-loop μ-loop
-mul-demands c = omega arith
-
-slice-write-demands : tie.Need-slice-write-demands Inv-loop μ-loop
-slice-write-demands c = omega arith
-
-add-i : tie.Need-add-i Inv-loop μ-loop
-add-i c = omega arith
-
-loop-less : tie.Need-loop-less Inv-loop μ-loop
-loop-less c = omega arith
 
 loop-again : tie.Need-loop-again Inv-loop μ-loop
 loop-again c =
@@ -69,12 +45,12 @@ start-nodes-spec =
     μ-loop
     loop-holds
     node-requires
-    mul-heads
-    slice-write-heads
-    mul-demands
-    slice-write-demands
-    add-i
-    loop-less
+    (λ c. omega arith)
+    (λ c. omega arith)
+    (λ c. omega arith)
+    (λ c. omega arith)
+    (λ c. omega arith)
+    (λ c. omega arith)
     loop-again
     same-length
     same-length-2
