@@ -157,9 +157,9 @@ class Pages(unittest.TestCase):
         self.assertIn("link 2 (PRV 2 -> 3) was freed", words[0][2])
         self.assertEqual(words[2][2], "converged")
 
-    def test_what_goes_into_a_tank_is_told_apart_from_the_error(self):
+    def test_what_goes_into_a_tank_is_no_error(self):
         page = desk_text.page(answer("tank-overflow"), False)
-        self.assertIn("the error holds what goes into the tanks", page)
+        self.assertIn("\nBalance\n  demand 0.0000 cfs, supply 0.0000 cfs, error 0 cfs\n\nTrials\n", page)
 
     def test_figures(self):
         self.assertEqual(desk_words.fixed(-0.0001, 2), "0.00")

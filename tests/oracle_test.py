@@ -39,6 +39,23 @@ def stored_text():
     return read(os.path.join(LIST, "stdout")).decode("ascii")
 
 
+def balance(data, flows):
+    """Demand, supply and error by the rules: the demand of junctions in service, in node order; the supply as
+    in the Rust's `flow_balance`."""
+    nodes = [f for _, mark, f in decode(data) if mark == b"ND"]
+    links = [f for _, mark, f in decode(data) if mark == b"LK"]
+    demand = supply = 0.0
+    for node in nodes:
+        if node["kind"] == 0 and not node["disabled"]:
+            demand += node["demand"]
+    for link, flow in zip(links, flows):
+        if nodes[link["end"]]["kind"] != 0:
+            supply -= flow
+        if nodes[link["start"]]["kind"] != 0:
+            supply += flow
+    return demand, supply, demand - supply
+
+
 class StoredList(unittest.TestCase):
     @classmethod
     def setUpClass(cls):
@@ -81,6 +98,12 @@ class StoredList(unittest.TestCase):
                 self.assertEqual((found.heads, found.flows), ([], []), case.name)
                 self.assertIsNone(found.balance, case.name)
                 self.assertNotIn("OK", marks, case.name)
+
+    def test_balance_of_each_listing(self):
+        for case in self.cases:
+            found = self.answers[case.name]
+            if found.number == 0:
+                self.assertEqual(found.balance, balance(case.data, found.flows), case.name)
 
     def test_every_number_and_mark(self):
         # 5 is about lent buffers: no sheet alone gives it
@@ -200,8 +223,8 @@ class Oracle(unittest.TestCase):
 
     def test_substitutions_are_printed(self):
         recipe, plain = self.said.split("plain:\n")
-        self.assertEqual([recipe.count(" %s " % s) for s in ("S1", "S2", "S3", "S4")], [1, 1, 1, 4])
-        self.assertEqual([plain.count(" %s " % s) for s in ("S1", "S2", "S3", "S4")], [1, 1, 0, 0])
+        self.assertEqual([recipe.count(" %s " % s) for s in ("S1", "S2", "S3", "S4", "S5")], [1, 1, 1, 4, 1])
+        self.assertEqual([plain.count(" %s " % s) for s in ("S1", "S2", "S3", "S4", "S5")], [1, 1, 0, 0, 0])
 
     def test_the_whole_list(self):
         data = read(os.path.join(LIST, "stdin"))
@@ -237,6 +260,12 @@ class Oracle(unittest.TestCase):
                   "43f0000000000000": infinity, "4000000000000000": two}
         found = oracle.run("recipe", "\n".join(stated).encode("ascii"), "--power")
         self.assertEqual(found.split(), list(stated.values()))
+
+    def test_plain_keeps_the_rusts_balance(self):
+        data = sheets.one("tank-overflow")
+        self.assertEqual(oracle.Listing(oracle.run("recipe", data)).balance, (0.0, 0.0, 0.0))
+        plain = oracle.Listing(oracle.run("plain", data))
+        self.assertEqual(plain.balance, (plain.demands[1], 0.0, plain.demands[1]))
 
     def test_plain_is_near_and_not_the_same(self):
         data = read(os.path.join(EXAMPLES, "looped.sheet"))

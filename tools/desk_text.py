@@ -74,12 +74,6 @@ def links(answer):
 def balance(answer):
     demand, supply, error = answer.listing.balance
     yield "  demand %s cfs, supply %s cfs, error %s cfs" % (fixed(demand, 4), fixed(supply, 4), small(error))
-    tanks = [i for i, node in enumerate(answer.nodes) if NODE_KINDS[node["kind"]] == "tank"]
-    if tanks:
-        # the inflow of a tank is counted as demand and taken from the supply as well
-        inflow = sum(answer.listing.demands[i] for i in tanks)
-        yield "  the error holds what goes into the tanks, %s cfs; without it, it is %s cfs" % (
-            fixed(inflow, 4), small(error - inflow))
 
 
 def record(answer):

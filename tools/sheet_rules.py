@@ -497,11 +497,10 @@ def out_of_service():
     """B01, B02, B05 to B07: nodes with no unknown and the links at them."""
     s = pair()
     s.nodes[0]["demand"] = 3.0
-    yield Case("B01-reservoir-demand", "a reservoir's demand stands, in N and in B", s, (0, 0))
+    yield Case("B01-reservoir-demand", "a reservoir's demand stands in N and is in no total", s, (0, 0))
     s = pair()
     s.junction(disabled=1, demand=2.0, head=7.0)
-    yield Case("B02-disabled-junction", "head and demand as in the sheet, and in the total", s,
-               (0, 0))
+    yield Case("B02-disabled-junction", "head and demand as in the sheet, and in no total", s, (0, 0))
     for word, flow in (("flow", 5.0), ("none", 0.0)):
         s = Sheet()
         s.reservoir(head=100.0)

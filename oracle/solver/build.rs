@@ -9,10 +9,10 @@ use std::{env, fs};
 /// Seen from this package; $ORACLE_SOURCES overrides it.
 const SOURCES: &str = "../../../shared/docs/src/src";
 
-#[derive(PartialEq)]
 enum When {
     Always,
     TablePower,
+    Balance,
 }
 
 struct Substitution {
@@ -41,6 +41,14 @@ const SUBSTITUTIONS: &[Substitution] = &[
         from: "            self.update_tank_links(network, &mut state);\n",
         to: "            self.update_tank_links(network, &mut state); crate::hook::stepped(&state)?;\n",
         why: "S2 the place of the test for refusal 7, which only `recipe` makes",
+    },
+    Substitution {
+        when: When::Balance,
+        file: "solver/hydraulicsolver.rs",
+        count: 1,
+        from: "demands.iter().sum();",
+        to: "crate::hook::total_demand(network, demands);",
+        why: "S5 document 02, [3]: the demand of junctions in service alone",
     },
     Substitution {
         when: When::TablePower,
@@ -161,12 +169,16 @@ fn main() {
 /// The text of one original file with its substitutions made; each is added to
 /// the list.
 fn substituted(sources: &Path, relative: &str, list: &mut String) -> String {
-    let table_power = env::var("CARGO_FEATURE_TABLE_POWER").is_ok();
+    let made = |when: &When| match when {
+        When::Always => true,
+        When::TablePower => env::var("CARGO_FEATURE_TABLE_POWER").is_ok(),
+        When::Balance => env::var("CARGO_FEATURE_BALANCE").is_ok(),
+    };
     let from = sources.join(relative);
     println!("cargo:rerun-if-changed={}", from.display());
     let mut text = fs::read_to_string(&from).unwrap_or_else(|e| panic!("{}: {e}", from.display()));
     for s in SUBSTITUTIONS.iter().filter(|s| s.file == relative) {
-        if s.when == When::TablePower && !table_power {
+        if !made(&s.when) {
             continue;
         }
         let found = text.matches(s.from).count();

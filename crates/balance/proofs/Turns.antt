@@ -11,20 +11,25 @@ use Rattle.layout.specs.declared.places.Layout.{Layout}
 use Rattle.links.specs.Links.{linkStart, linkEnd}
 use Rattle.constants.specs.Arithmetic.{plus, minus}
 use Rattle.constants.specs.Constants as constant
-use Rattle.nodes.specs.Nodes.{fixedNode}
+use Rattle.nodes.specs.Nodes.{fixedNode, inService}
 use Rattle.columns.specs.Columns.{addTo}
 use Rattle.balance.specs.Balance.{demandOf, suppliedBy, supplyOf, balanceOf, settledOf}
 use Rattle.balance.specs.declared.Totals.{Totals}
 
 -- ---- demand
 
-pub no-demand : (d : List Float) → constant.zero ≡ demandOf d 0
+pub no-demand : (s : List ℕ) (l : Layout) (d : List Float) → constant.zero ≡ demandOf s l d 0
 unfolding demandOf
-no-demand d = refl
+no-demand s l d = refl
 
-pub next-demand : (d : List Float) (i : ℕ) (t : Float) → t ≡ demandOf d i → plus t (getD d i nan) ≡ demandOf d (i + 1)
-unfolding demandOf
-next-demand d i t h = rw (add-one i, h)
+module _ (s : List ℕ) (l : Layout) (d : List Float) (i : ℕ) (t next : Float) (so-far : t ≡ demandOf s l d i) where
+  pub demand-in : next ≡ plus t (getD d i nan) → inService s l i ≡ true → next ≡ demandOf s l d (i + 1)
+  unfolding demandOf
+  demand-in e h = rw (add-one i, e, h, so-far)
+
+  pub demand-out : next ≡ t → inService s l i ≡ false → next ≡ demandOf s l d (i + 1)
+  unfolding demandOf
+  demand-out e h = rw (add-one i, e, h, so-far)
 
 -- ---- supply
 
@@ -54,7 +59,7 @@ next-supply s l q j t u a b fa fb ha hb ga gb h k = rw (add-one j, k, h, ga, gb,
 
 -- ---- the balance, and the demands after it
 
-pub balance-of : (s : List ℕ) (l : Layout) (d q : List Float) (x y : Float) → x ≡ demandOf d (l .nodes) → y ≡ supplyOf s l q (l .links) → _≡_ {A = Totals} (record { demand = x; supply = y; error = minus x y }) (balanceOf s l d q)
+pub balance-of : (s : List ℕ) (l : Layout) (d q : List Float) (x y : Float) → x ≡ demandOf s l d (l .nodes) → y ≡ supplyOf s l q (l .links) → _≡_ {A = Totals} (record { demand = x; supply = y; error = minus x y }) (balanceOf s l d q)
 unfolding balanceOf
 balance-of s l d q x y h g = rw (h, g)
 

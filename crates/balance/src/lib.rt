@@ -1,4 +1,5 @@
-// hydraulicsolver.rs `flow_balance`: the balance of a converged solve, and the demands after it.
+// hydraulicsolver.rs `flow_balance`, but for tanks (request [3]): the balance of a converged solve, and
+// the demands after it.
 ghost use mathlib.Core.Path.{_≡_};
 ghost use Prim.Native.Nat.{_≤_};
 ghost use lib.ListN.{length};
@@ -9,6 +10,7 @@ use columns::add_to;
 use layout::Layout;
 use links::link_end;
 use links::link_start;
+use nodes::in_service;
 use nodes::is_fixed;
 
 // Total demand, total supply, and the first less the second.
@@ -18,13 +20,17 @@ pub struct Totals {
     pub error: f64,
 }
 
-fn total_demand(demands: &[f64], nodes: usize) -> f64
-    requires { ⌜ nodes ≤ length (now demands) ⌝ }
-    ensures { λ r. ⌜ r ≡ demandOf (now (demands .entry)) nodes ⌝ }
+// What the junctions in service ask. A tank's inflow is no demand: supply has it already.
+fn total_demand(sheet: &[u8], l: Layout, demands: &[f64]) -> f64
+    requires { ⌜ Laid l (now sheet) ⌝ }
+    requires { ⌜ l .nodes ≤ length (now demands) ⌝ }
+    ensures { λ r. ⌜ r ≡ demandOf (now (sheet .entry)) l (now (demands .entry)) (l .nodes) ⌝ }
 {
     let mut total = 0.0;
-    for i in 0..nodes {
-        total = total + demands[i];
+    for i in 0..l.nodes {
+        if in_service(sheet, l, i) {
+            total = total + demands[i];
+        }
     }
     total
 }
@@ -67,7 +73,7 @@ pub fn balanced(sheet: &[u8], l: Layout, demands: &[f64], flows: &[f64]) -> Tota
     requires { ⌜ (l .nodes ≤ length (now demands)) × (l .links ≤ length (now flows)) ⌝ }
     ensures { λ r. ⌜ r ≡ balanceOf (now (sheet .entry)) l (now (demands .entry)) (now (flows .entry)) ⌝ }
 {
-    let demand = total_demand(demands, l.nodes);
+    let demand = total_demand(sheet, l, demands);
     let supply = total_supply(sheet, l, flows);
     Totals {
         demand: demand,

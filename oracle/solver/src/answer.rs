@@ -74,7 +74,8 @@ pub fn hex(x: f64) -> String {
     }
 }
 
-/// Rust's `sum` starts at -0.0, document 01's at +0.0 and so never ends at -0.0.
+/// Rust's `sum`, which `plain` keeps, starts at -0.0; document 01's starts at +0.0
+/// and so never ends at -0.0.
 fn positive_zero(x: f64) -> f64 {
     if x == 0.0 { 0.0 } else { x }
 }

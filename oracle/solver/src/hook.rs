@@ -1,6 +1,9 @@
-//! What substitution S2 calls: the test for refusal 7, and the deep trace.
+//! What the substitutions call: S2 the test for refusal 7 and the deep trace, S5
+//! the total demand.
 
 use crate::error::SolverError;
+use crate::model::network::Network;
+use crate::model::node::NodeType;
 use crate::solver::state::SolverState;
 use simplelog::trace::{self, Event};
 use std::cell::Cell;
@@ -41,6 +44,16 @@ pub fn stepped(state: &SolverState) -> Result<(), SolverError> {
         return Err(SolverError::Factorization(format!("refusal 7 at {place}")));
     }
     Ok(())
+}
+
+/// Document 02, [3]: over junctions in service, in node order from +0.0.
+pub fn total_demand(network: &Network, demands: &[f64]) -> f64 {
+    let counts = |i: usize| {
+        let node = &network.nodes[i];
+        !node.disabled && matches!(node.node_type, NodeType::Junction(_))
+    };
+    let of_junctions = (0..demands.len()).filter(|&i| counts(i));
+    of_junctions.fold(0.0, |sum, i| sum + demands[i])
 }
 
 #[cfg(test)]

@@ -1,20 +1,11 @@
 -- `balance::total_supply` meets its contract. Assumes nothing.
 use Rattle.balance.specs.Balance.{supplyOf}
 use Rattle.balance.proofs.Turns.{no-supply, next-supply}
-use borrow.Author.Needs.{needs}
 use native.Mathlib.Omega.{arith}
-use Prim.Native.Nat.{ℕ, suc, _+_, _*_, _-_, _≤_, _<_}
+use Prim.Native.Nat.{ℕ, _-_, _≤_, _<_}
 use mathlib.Core.Path.{_≡_, sym, ap, subst, _∙_}
-use native.Mathlib.Numerals.{add-one}
-use lib.ListN.{length, getD, set, length-set}
 use Rattle.balance.proofs.total_supply.Statement.{statement}
 use Rattle.balance.proofs.total_supply.Tie as tie
-use Rattle.balance.proofs.total_supply.Reads as reads
-use Rattle.balance.proofs.total_supply.Lts as lts
-use Rattle.balance.proofs.supplied.Reads as supplied-reads
-use Rattle.links.proofs.link_end.Reads as link-end-reads
-use Rattle.links.proofs.link_start.Reads as link-start-reads
-use Rattle.nodes.proofs.is_fixed.Reads as is-fixed-reads
 
 abbrev Inv-loop : tie.InvT-loop
 Inv-loop sheet l flows supply₀ j₀ j-end supply j = (j ≤ l .links) × (supply ≡ supplyOf sheet l flows j)
@@ -45,21 +36,6 @@ is-fixed-requires-2 c κs =
     let s = t .before .before .before .before in
     (s .pre .0, subst (λ (k : ℕ). k < s .args .l .nodes) (sym (b .link-end .ensures)) (s .pre .1 .0 .end _ (t .loop-test .taken)))
 
-mul-supplied : tie.Need-mul-supplied Inv-loop μ-loop
-mul-supplied c = omega arith
-
-shared-slice-read-supplied : tie.Need-shared-slice-read-supplied Inv-loop μ-loop
-shared-slice-read-supplied c = omega arith
-
-supplied-requires : tie.Need-supplied-requires Inv-loop μ-loop
-supplied-requires c κs = tt
-
-add-j : tie.Need-add-j Inv-loop μ-loop
-add-j c = omega arith
-
-loop-less : tie.Need-loop-less Inv-loop μ-loop
-loop-less c = omega arith
-
 loop-again : tie.Need-loop-again Inv-loop μ-loop
 loop-again c =
     let fb = c .before .before in
@@ -87,10 +63,10 @@ total-supply-spec =
     link-end-requires
     is-fixed-requires
     is-fixed-requires-2
-    mul-supplied
-    shared-slice-read-supplied
-    supplied-requires
-    add-j
-    loop-less
+    (λ c. omega arith)
+    (λ c. omega arith)
+    (λ c κs. tt)
+    (λ c. omega arith)
+    (λ c. omega arith)
     loop-again
     returns)
