@@ -19,6 +19,9 @@ bigValue = ofBits binary64 0x4197_d784_0000_0000
 abbrev pub rqTol : Float
 rqTol = ofBits binary64 0x3e7a_d7f2_9abc_af48
 
+abbrev pub pdaMinDiff : Float
+pdaMinDiff = ofBits binary64 0x3fb9_9999_9999_999a
+
 abbrev pub qTol : Float
 qTol = ofBits binary64 0x3f1a_36e2_eb1c_432d
 
@@ -132,6 +135,7 @@ decimals =
     ∷ decimal 1 1_000_000 cvHeadEpsilon
     ∷ decimal 100_000_000 1 bigValue
     ∷ decimal 1 10_000_000 rqTol
+    ∷ decimal 1 10 pdaMinDiff
     ∷ decimal 1 10_000 qTol
     ∷ decimal 5 10_000 hTol
     ∷ decimal 1_852 1_000 hExponent

@@ -10,6 +10,8 @@ pub const BIG_VALUE: f64 = 1e8;
 
 pub const RQ_TOL: f64 = 1e-7;
 
+pub const PDA_MIN_DIFF: f64 = 0.1;
+
 pub const Q_TOL: f64 = 0.0001;
 
 pub const H_TOL: f64 = 0.0005;

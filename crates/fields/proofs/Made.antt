@@ -8,13 +8,17 @@ use lib.Dec.{eqb, leb, ltb}
 use lib.Ieee.{Float, lt, le}
 use Rattle.patterns.specs.Bytes.{fromBytes}
 use Rattle.records.specs.Records.{byteAt, pairAt}
-use Rattle.fields.specs.Fields.{null, within, allWithin, optionsGood, nodeGood, linkCodes, linkNumbers, linkGood}
+use Rattle.fields.specs.Fields.{null, within, allWithin, optionsGood, pressuresGood, nodeGood, linkCodes, linkNumbers, linkGood}
 use Rattle.fields.specs.declared.fields.Bounds.{Bounds}
 
 module _ (s : List ℕ) where
   pub options-good : (b : Bounds) (r : Bool) (x y z : Float) (t : ℕ) → r ≡ allWithin b 3 s 2 → x ≡ fromBytes s 2 → y ≡ fromBytes s 10 → z ≡ fromBytes s 18 → t ≡ pairAt s 26 → (r && lt null x && le null y && le null z && leb 1 t && leb t (b .trials) && leb (byteAt s 28) (b .unit)) ≡ optionsGood b s
   unfolding optionsGood
   options-good b r x y z t a c d e f = rw (a, c, d, e, f)
+
+  pub pressures-good : (b : Bounds) (r : Bool) (x y : Float) → r ≡ allWithin b 2 s 31 → x ≡ fromBytes s 31 → y ≡ fromBytes s 39 → (r && le x y) ≡ pressuresGood b s
+  unfolding pressuresGood
+  pressures-good b r x y a c d = rw (a, c, d)
 
   pub node-good : (b : Bounds) (at : ℕ) (r : Bool) → r ≡ allWithin b 5 s (at + 4) → (leb (byteAt s (at + 2)) 2 && leb (byteAt s (at + 3)) 1 && r && leb (byteAt s (at + 44)) 1) ≡ nodeGood b s at
   unfolding nodeGood

@@ -39,6 +39,11 @@ optionsGood b s =
     && leb (pairAt s 26) (b .trials)
     && leb (byteAt s 28) (b .unit)
 
+-- PD: both floats in bounds; required not below minimum
+unfoldable pub pressuresGood : Bounds → List ℕ → Bool
+unfolding allWithin
+pressuresGood b s = allWithin b 2 s 31 && le (fromBytes s 31) (fromBytes s 39)
+
 -- ND: kind, disabled flag, five floats, overflow flag
 unfoldable pub nodeGood : Bounds → List ℕ → ℕ → Bool
 unfolding allWithin

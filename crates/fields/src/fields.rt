@@ -2,7 +2,7 @@
 ghost use mathlib.Core.Path.{_≡_};
 ghost use Prim.Native.Nat.{_+_, _*_, _≤_, _<_};
 ghost use lib.ListN.{length};
-ghost use Rattle.fields.specs.Fields.{baseBounds, within, allWithin, optionsGood, nodeGood, linkCodes, linkNumbers, linkGood};
+ghost use Rattle.fields.specs.Fields.{baseBounds, within, allWithin, optionsGood, pressuresGood, nodeGood, linkCodes, linkNumbers, linkGood};
 use float::abs;
 use patterns::from_bytes;
 use records::pair_at;
@@ -63,6 +63,13 @@ pub fn options_good(sheet: &[u8], b: Bounds) -> bool
         & (1 <= trials)
         & (trials <= b.trials)
         & (sheet[28] as usize <= b.unit)
+}
+
+pub fn pressures_good(sheet: &[u8], b: Bounds) -> bool
+    requires { ⌜ 47 ≤ length (now sheet) ⌝ }
+    ensures { λ r. ⌜ r ≡ pressuresGood b (now (sheet .entry)) ⌝ }
+{
+    all_within(sheet, 31, 2, b) & (from_bytes(sheet, 31) <= from_bytes(sheet, 39))
 }
 
 pub fn node_good(sheet: &[u8], at: usize, b: Bounds) -> bool

@@ -6,3 +6,4 @@ pub use fields::base_bounds;
 pub use fields::link_good;
 pub use fields::node_good;
 pub use fields::options_good;
+pub use fields::pressures_good;

@@ -6,6 +6,7 @@ use lib.ListN.{getD}
 use Rattle.patterns.specs.Bytes.{littleEndian, fromBytes}
 use Rattle.codes.specs.Codes.{nodeKindOf, linkKindOf, statusOf}
 use Rattle.records.specs.declared.records.Options.{Options}
+use Rattle.records.specs.declared.records.Pressures.{Pressures}
 use Rattle.records.specs.declared.records.Node.{Node}
 use Rattle.records.specs.declared.records.Link.{Link}
 
@@ -20,6 +21,10 @@ unfoldable pub optionsOf : List ℕ → Options
 unfolding pairAt
 optionsOf s =
     record { accuracy = fromBytes s 2; damping = fromBytes s 10; change = fromBytes s 18; trials = pairAt s 26; unit = byteAt s 28 }
+
+-- PD stands straight after OP
+unfoldable pub pressuresOf : List ℕ → Pressures
+pressuresOf s = record { minimum = fromBytes s 31; required = fromBytes s 39 }
 
 unfoldable pub nodeAt : List ℕ → ℕ → Node
 nodeAt s at =

@@ -2,7 +2,7 @@
 ghost use mathlib.Core.Path.{_≡_};
 ghost use Prim.Native.Nat.{_+_, _≤_};
 ghost use lib.ListN.{length};
-ghost use Rattle.records.specs.Records.{optionsOf, nodeAt, linkAt, pairAt};
+ghost use Rattle.records.specs.Records.{optionsOf, pressuresOf, nodeAt, linkAt, pairAt};
 use codes::LinkKind;
 use codes::NodeKind;
 use codes::Status;
@@ -19,6 +19,12 @@ pub struct Options {
     pub change: f64,
     pub trials: usize,
     pub unit: usize,
+}
+
+// PD: minimum and required pressure.
+pub struct Pressures {
+    pub minimum: f64,
+    pub required: f64,
 }
 
 // ND: kind, disabled, elevation, demand, head, max level, min level, overflow.
@@ -65,6 +71,17 @@ pub fn options_of(sheet: &[u8]) -> Options
         change: from_bytes(sheet, 18),
         trials: pair_at(sheet, 26),
         unit: sheet[28] as usize,
+    }
+}
+
+// A PD stands straight after OP.
+pub fn pressures_of(sheet: &[u8]) -> Pressures
+    requires { ⌜ 47 ≤ length (now sheet) ⌝ }
+    ensures { λ r. ⌜ r ≡ pressuresOf (now (sheet .entry)) ⌝ }
+{
+    Pressures {
+        minimum: from_bytes(sheet, 31),
+        required: from_bytes(sheet, 39),
     }
 }
 

@@ -27,7 +27,7 @@ pub struct Stats {
 }
 
 // Takes a flow change, the flow after it and a status change that counts into the statistics.
-fn note(dq: f64, q: f64, changes: bool, stats: Stats) -> Stats
+pub fn note(dq: f64, q: f64, changes: bool, stats: Stats) -> Stats
     ensures { λ r. ⌜ r ≡ noted dq q changes stats ⌝ }
 {
     let size = abs(dq);

@@ -1,0 +1,2 @@
+-- The specs of `bends`.
+pub mod Bends

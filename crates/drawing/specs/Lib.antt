@@ -1,0 +1,2 @@
+-- The specs of `drawing`.
+pub mod Drawing

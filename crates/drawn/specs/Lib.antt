@@ -1,0 +1,2 @@
+-- The specs of `drawn`.
+pub mod Drawn
