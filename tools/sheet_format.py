@@ -23,6 +23,7 @@ PER_CFS = (1.0, 448.831, 0.64632, 0.5382, 1.9837, 28.317, 1699.0, 2.4466, 0.0283
 # mark: struct layout after the mark, field names
 LAYOUT = {
     b"OP": ("<dddHB", ("accuracy", "damping_limit", "max_flow_change", "trials", "unit")),
+    b"PD": ("<dd", ("minimum", "required")),
     b"ND": ("<BBdddddB", ("kind", "disabled", "elevation", "demand", "head",
                           "max_level", "min_level", "overflow")),
     b"LK": ("<BBBHHddddd", ("kind", "check_valve", "status", "start", "end", "setting",
@@ -43,13 +44,15 @@ def record(mark, fields):
 
 
 class Sheet:
-    """One sheet; every field may also be set afterwards in op, nodes and links."""
+    """One sheet; every field may also be set afterwards in op, pd, nodes and links. `pressures`,
+    where given, is the PD's pair: minimum and required pressure in feet."""
 
     def __init__(self, accuracy=0.001, damping_limit=0.0, max_flow_change=0.0,
-                 trials=40, unit="CFS"):
+                 trials=40, unit="CFS", pressures=None):
         self.op = dict(accuracy=accuracy, damping_limit=damping_limit,
                        max_flow_change=max_flow_change, trials=trials,
                        unit=code(UNITS, unit))
+        self.pd = pressures and dict(zip(("minimum", "required"), pressures))
         self.nodes = []
         self.links = []
 
@@ -86,13 +89,14 @@ class Sheet:
 
     def at_node(self, index):
         """The byte offset of a node's record."""
-        return BYTES[b"OP"] + BYTES[b"ND"] * index
+        return BYTES[b"OP"] + (BYTES[b"PD"] if self.pd else 0) + BYTES[b"ND"] * index
 
     def at_link(self, index):
         return self.at_node(len(self.nodes)) + BYTES[b"LK"] * index
 
     def encode(self):
         return b"".join([record(b"OP", self.op)]
+                        + ([record(b"PD", self.pd)] if self.pd else [])
                         + [record(b"ND", node) for node in self.nodes]
                         + [record(b"LK", link) for link in self.links])
 
@@ -125,10 +129,10 @@ def shown(data):
             yield "%6d  not a record: %d bytes, %s" % (at, len(fields), fields[:16].hex())
             continue
         fields = dict(fields)
+        title = ""
         if mark == b"OP":
             fields["unit"] = named(UNITS, fields["unit"])
-            title = ""
-        else:
+        elif mark != b"PD":
             kinds = NODE_KINDS if mark == b"ND" else LINK_KINDS
             title = "%d %s " % (count[mark], named(kinds, fields.pop("kind")))
             count[mark] += 1
