@@ -1,13 +1,24 @@
--- A node and a link lie within their sheet. Assumes nothing.
+-- The OP, the PD, a node and a link lie within their sheet. Assumes nothing.
 use Prim.Native.Nat.{ℕ, suc, _+_, _≤_, _<_}
+use mathlib.Core.Bool.{Bool, true, false}
 use mathlib.Core.List.{List}
-use mathlib.Core.Path.{_≡_}
+use mathlib.Core.Path.{_≡_, ap}
 use native.Mathlib.Nat.{mul-suc, mul-zero, mul-le-mul-left}
 use native.Mathlib.Numerals.{add-one}
 use native.Mathlib.Omega.{arith}
 use lib.ListN.{length}
-use Rattle.layout.specs.Places.{Laid, nodePlace, linkPlace}
+use Rattle.layout.specs.Places.{Laid, heading, nodePlace, linkPlace}
 use Rattle.layout.specs.declared.places.Layout.{Layout}
+
+at-least : (pressures : Bool) → 29 ≤ heading pressures
+at-least true = omega arith
+at-least false = omega arith
+
+pub options-within : (l : Layout) (s : List ℕ) → Laid l s → 29 ≤ length s
+options-within l s laid = omega (arith, at-least (l .pressures), laid .options, laid .nodes)
+
+pub pressures-within : (l : Layout) (s : List ℕ) → Laid l s → l .pressures ≡ true → 47 ≤ length s
+pressures-within l s laid h = omega (arith, ap heading h, laid .options, laid .nodes)
 
 pub node-within : (l : Layout) (s : List ℕ) (i : ℕ) → Laid l s → i < l .nodes → nodePlace l i + 45 ≤ length s
 node-within l s i laid h = omega (arith, laid .nodes)

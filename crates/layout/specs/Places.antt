@@ -1,5 +1,6 @@
 -- Where the records of a sheet stand. Definitions only.
 use Prim.Native.Nat.{ℕ, _+_, _*_, _≤_}
+use mathlib.Core.Bool.{Bool, true, false}
 use mathlib.Core.List.{List}
 use lib.ListN.{length}
 use Rattle.layout.specs.declared.places.Layout.{Layout}
@@ -13,7 +14,12 @@ linkOffset n j = 29 + 45 * n + 49 * j
 
 -- the layout of such a sheet of n nodes, k links and u unknowns
 abbrev pub plain : ℕ → ℕ → ℕ → Layout
-plain n k u = record { nodes = n; links = k; unknowns = u; node0 = 29; link0 = nodeOffset n; stride = 49 }
+plain n k u = record { nodes = n; links = k; unknowns = u; node0 = 29; link0 = nodeOffset n; stride = 49; pressures = false }
+
+-- what stands before the first node: the OP, and a PD of 18 bytes where there is one
+abbrev pub heading : Bool → ℕ
+heading true = 47
+heading false = 29
 
 -- the offsets of node i and of link j by a layout
 abbrev pub nodePlace : Layout → ℕ → ℕ
@@ -22,9 +28,9 @@ nodePlace l i = l .node0 + 45 * i
 unfoldable pub linkPlace : Layout → ℕ → ℕ
 linkPlace l j = l .link0 + l .stride * j
 
--- a sheet is long enough for its layout, and begins with an OP's bytes
+-- a sheet is long enough for its layout, and for its OP and PD
 pub record Laid (l : Layout) (s : List ℕ) : Type 0 where
-  pub options : 29 ≤ l .node0
+  pub options : heading (l .pressures) ≤ l .node0
   pub nodes : nodePlace l (l .nodes) ≤ length s
   pub links : linkPlace l (l .links) ≤ length s
   pub stride : 49 ≤ l .stride

@@ -1,4 +1,4 @@
-// Where the records of a sheet stand: one OP, then all ND, then all LK.
+// Where the records of a sheet stand: one OP, a PD or none, then all ND, then all LK.
 ghost use mathlib.Core.Path.{_≡_};
 ghost use Prim.Native.Nat.{_^_, _<_};
 ghost use Rattle.layout.specs.Places.{nodePlace, linkPlace};
@@ -11,7 +11,8 @@ pub const ND_SIZE: usize = 45;
 pub const LK_SIZE: usize = 49;
 
 // What is known of a sheet that was read: how many nodes, links and unknowns it has, where its
-// first node and its first link stand, and how far a link is from the next.
+// first node and its first link stand, how far a link is from the next, and whether a PD stands
+// behind its OP.
 pub struct Layout {
     pub nodes: usize,
     pub links: usize,
@@ -19,6 +20,7 @@ pub struct Layout {
     pub node0: usize,
     pub link0: usize,
     pub stride: usize,
+    pub pressures: bool,
 }
 
 // The byte offset of node i.

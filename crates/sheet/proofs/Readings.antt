@@ -135,7 +135,7 @@ pub nodes-inside : (s : List ℕ) (n : ℕ) → 29 ≤ length s → n ≡ record
 nodes-inside s n h e = omega (arith, run-fits 78 68 45 (length s) s 29 h)
 
 pub layout-of : (s : List ℕ) (n at k : ℕ) → n ≡ recordsFrom 78 68 45 (length s) s 29 → at ≡ 29 + 45 * n → k ≡ recordsFrom 76 75 49 (length s) s at
-    → _≡_ {A = Layout} (record { nodes = n; links = k; unknowns = 0; node0 = 29; link0 = at; stride = 49 }) (layoutOf s)
+    → _≡_ {A = Layout} (record { nodes = n; links = k; unknowns = 0; node0 = 29; link0 = at; stride = 49; pressures = false }) (layoutOf s)
 unfolding layoutOf nodesOf linksOf
 layout-of s n at k en ea ek = rw (ek, ea, en)
 

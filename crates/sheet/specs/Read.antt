@@ -50,7 +50,7 @@ unless Nothing refusal reading = reading
 unfoldable pub withUnknowns : List ℕ → Layout → Layout
 unfolding serving
 withUnknowns s l =
-    record { nodes = l .nodes; links = l .links; unknowns = serving s l (l .nodes); node0 = l .node0; link0 = l .link0; stride = l .stride }
+    record { nodes = l .nodes; links = l .links; unknowns = serving s l (l .nodes); node0 = l .node0; link0 = l .link0; stride = l .stride; pressures = l .pressures }
 
 -- 3 and 4
 unfoldable pub checked : Bounds → Layout → List ℕ → Reading

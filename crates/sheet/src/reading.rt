@@ -94,6 +94,7 @@ fn with_unknowns(sheet: &[u8], l: Layout) -> Layout
         node0: l.node0,
         link0: l.link0,
         stride: l.stride,
+        pressures: l.pressures,
     }
 }
 

@@ -48,5 +48,6 @@ pub fn lay_out(sheet: &[u8]) -> Layout
         node0: OP_SIZE,
         link0: link0,
         stride: LK_SIZE,
+        pressures: false,
     }
 }

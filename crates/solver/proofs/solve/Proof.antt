@@ -3,6 +3,7 @@ use native.Mathlib.Omega.{arith}
 use mathlib.Core.Path.{_≡_, sym, ap, _∙_}
 use borrow.Author.Needs.{needs}
 use Rattle.records.specs.declared.records.Options.{Options}
+use Rattle.layout.proofs.Laws.{options-within}
 use Rattle.answers.proofs.Laws.{enough}
 use Rattle.solver.proofs.Laws.{network-of, few-trials, solve-refused, solve-short, solve-runs}
 use Rattle.solver.proofs.solve.Statement.{statement}
@@ -11,7 +12,7 @@ use Rattle.solver.proofs.solve.Tie as tie
 options-of-requires : tie.Need-options-of-requires
 options-of-requires c κs =
     let w = network-of _ _ (sym (c .before .before .before .read .ensures) ∙ c .before .l .given .1) in
-    omega (arith, w .laid .options, w .laid .nodes)
+    options-within _ _ (w .laid)
 
 too-short-requires : tie.Need-too-short-requires
 too-short-requires c κs =

@@ -2,6 +2,7 @@
 use native.Mathlib.Omega.{arith}
 use mathlib.Core.Path.{sym, _∙_}
 use borrow.Author.Needs.{needs}
+use Rattle.layout.proofs.Laws.{options-within}
 use Rattle.step.proofs.Laws.{step-of, verdict-wild, verdict-judged}
 use Rattle.step.proofs.step.Statement.{statement}
 use Rattle.step.proofs.step.Tie as tie
@@ -39,7 +40,7 @@ options-of-requires c κs =
     let u = t .before .before .before .before .before .before .before .before .before in
     let p = u .before .before .before .before .before .before in
     let start = p .before .before .before .before .before .before .before .before .before .before .before .before in
-    omega (arith, start .pre .0 .laid .options, start .pre .0 .laid .nodes)
+    options-within _ _ (start .pre .0 .laid)
 
 returns : tie.Need-returns
 returns c =

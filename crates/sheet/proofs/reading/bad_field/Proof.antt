@@ -1,14 +1,14 @@
 -- `sheet::reading::bad_field` meets its contract. Assumes nothing.
 use mathlib.Core.Path.{sym, _∙_}
 use borrow.Author.Needs.{needs}
-use native.Mathlib.Omega.{arith}
 use borrow.Author.Tests.{not-true, not-false}
+use Rattle.layout.proofs.Laws.{options-within}
 use Rattle.sheet.proofs.Readings.{field-options, field-node, field-link}
 use Rattle.sheet.proofs.reading.bad_field.Statement.{statement}
 use Rattle.sheet.proofs.reading.bad_field.Tie as tie
 
 options-good-requires : tie.Need-options-good-requires
-options-good-requires c κs = omega (arith, c .before .pre .options, c .before .pre .nodes)
+options-good-requires c κs = options-within _ _ (c .before .pre)
 
 returns : tie.Need-returns
 returns c =
