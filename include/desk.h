@@ -13,12 +13,12 @@
 extern "C" {
 #endif
 
-/* Solves the network of a sheet: one OP record, then all ND, then all LK, and nothing after. Any bytes of
-   any length are taken; a sheet that is not good is refused by its number.
+/* Solves the network of a sheet: one OP record, a PD or none, then all ND, then all LK, and nothing after. Any
+   bytes of any length are taken; a sheet that is not good is refused by its number.
 
    Lent, with the entries that each needs (n nodes, k links, m allowed trials):
      heads      n   on 0: the head of each node, in feet
-     demands    n   on 0: the demand of each node, in cubic feet per second
+     demands    n   on 0: the demand of each node, in cubic feet per second; where a PD stands, what it draws
      flows      k   on 0: the flow of each link, in cubic feet per second
      statuses   k   on 0: the status of each link, 0 Closed, 1 Open, 2 Active, 3 TempClosed, 4 FixedClosed,
                     5 FixedOpen, 6 XPressure, 7 Xhead
@@ -43,8 +43,9 @@ extern "C" {
      5  heads, demands, flows, statuses, record or scratch too
         short                                                        0 to 5, the lowest
      6  singular                                                     node
-     7  after a stepped trial a head or a flow is NaN, infinite or
-        at least 2^64 in magnitude                                   first such node, else 64 + first such link
+     7  after a stepped trial a head, a flow or, where a PD
+        stands, a drawn flow is NaN, infinite or at least 2^64 in    first such node, else 64 + first such link,
+        magnitude                                                    else 256 + first such node
      8  trial limit used up                                          the limit
 
    Changed: on 1 to 5 nothing lent, and trials, freed and grounded are 0. On 6, 7 and 8 only record and scratch.

@@ -1,6 +1,7 @@
 """The desk: its words, tables, JSON and pictures over stored listings, the undetermined junctions, refusals
 explained, the text form, and what it does with bad arguments. The proved program is not asked here."""
 import contextlib
+import hashlib
 import io
 import json
 import os
@@ -15,6 +16,7 @@ TOP = os.path.dirname(os.path.dirname(os.path.abspath(__file__)))
 sys.path.insert(0, os.path.join(TOP, "tools"))
 
 import desk_answer
+import desk_drawn
 import desk_json
 import desk_main
 import desk_network
@@ -25,6 +27,7 @@ import desk_text
 import desk_words
 import listings
 import programs
+import sheet_bounds
 import sheet_text
 import sheets
 from sheet_format import STATUSES, Sheet, bits
@@ -37,12 +40,34 @@ TEXTS = listings.split(read(LISTINGS).decode())
 BY_NAME = {case.name: (case.data, text) for case, text in zip(CASES, TEXTS)}
 BY_DATA = {case.data: text for case, text in zip(CASES, TEXTS)}
 BY_DATA[read("examples/refused.sheet")] = "A 3 168 0 0 0\n"
+DRY_WEEK = "examples/dry-week"
 NOT_FOR_SALE = "; these pressures must not be sold on"
 
 
 def answer(name):
     data, text = BY_NAME[name]
     return desk_answer.Answer(name, data, text)
+
+
+def made(sheet, heads, drawn, flows=(), trials=3):
+    """An answer 0 made up for a sheet: a head and a drawn flow for each node, a flow for each link."""
+    lines = ["A 0 0 %d 0 0" % trials] + ["T ST 0"] * (trials - 1) + ["T OK 0"]
+    lines += ["N %d %016x %016x" % (i, bits(head), bits(flow)) for i, (head, flow) in enumerate(zip(heads, drawn))]
+    lines += ["L %d %016x 1" % (i, bits(flow)) for i, flow in enumerate(flows)]
+    lines += ["B %016x %016x %016x" % (bits(1.0), bits(0.75), bits(0.25))]
+    return desk_answer.Answer("made.sheet", sheet.encode(), "\n".join(lines) + "\n")
+
+
+def row(*pressures, minimum=0.0, required=64.0, unit="CFS", asked=0.5):
+    """A reservoir and a row of hydrants at height 10, each asking the same; the answer has these pressures, and
+    each draws what its pressure allows, or what stands beside the pressure."""
+    s = Sheet(pressures=(minimum, required), unit=unit)
+    s.reservoir(head=100.0)
+    pairs = [p if isinstance(p, tuple) else (p, desk_drawn.allowed(asked, p, s.pd)) for p in pressures]
+    for k in range(len(pairs)):
+        s.junction(elevation=10.0, demand=asked)
+        s.pipe(k, k + 1)
+    return made(s, [100.0] + [10.0 + p for p, _ in pairs], [0.0] + [q for _, q in pairs], [0.5] * len(pairs))
 
 
 def example(name):
@@ -109,7 +134,7 @@ class FirstLines(unittest.TestCase):
         for name in BY_NAME:
             found = answer(name)
             if found.solved:
-                doubtful = bool(found.listing.freed or found.listing.grounded or found.undetermined)
+                doubtful = bool(found.listing.freed or found.listing.grounded or found.undetermined or found.unfit)
                 self.assertEqual(found.first_line().endswith(NOT_FOR_SALE), doubtful, name)
                 self.assertEqual(found.exit_status, 3 if doubtful else 0, name)
                 marks = [mark for mark, _ in found.entries]
@@ -169,6 +194,191 @@ class Pages(unittest.TestCase):
         self.assertEqual(desk_words.numbered("node", [1, 2]), "nodes 1 and 2")
         self.assertEqual(desk_words.numbered("node", [1, 2, 3, 7]), "nodes 1 to 3 and 7")
         self.assertEqual(desk_words.listed(["a", "b", "c"]), "a, b and c")
+
+
+def keys(value):
+    """Every key of a JSON value."""
+    for key, inner in (value.items() if isinstance(value, dict) else ()):
+        yield key
+        yield from keys(inner)
+    for inner in value if isinstance(value, list) else ():
+        yield from keys(inner)
+
+
+def undocumented(value):
+    paper = read("docs/DESK.md").decode()
+    return [key for key in keys(value) if not key.endswith("_bits") and "`%s`" % key not in paper]
+
+
+def picture_words(found):
+    root = ElementTree.fromstring(desk_plot.picture(found))
+    return " ".join("".join(element.itertext()) for element in root.iter() if element.tag.endswith("}text"))
+
+
+def everything(found):
+    return desk_text.page(found, True) + desk_json.document([found]) + desk_plot.picture(found)
+
+
+class WithoutPressures(unittest.TestCase):
+    def test_nothing_changes_for_a_sheet_without_a_pd(self):
+        """Page, JSON and picture of the seeded cases are those of before there was a PD. But for refusal 1 just
+        behind OP, whose words now name PD among what may stand there."""
+        digest = hashlib.sha256()
+        for name in BY_NAME:
+            if re.match("boundary-11-|real-12-|wild-13-|damaged-14-", name):
+                found = answer(name)
+                if (found.listing.number, found.listing.place) != (1, 29):
+                    digest.update(everything(found).encode())
+        self.assertEqual(digest.hexdigest(), "db5a39af2629f264ff9b2926b526e99eb9ce66c30f4f2a6530c9bb38f3079a29")
+
+
+class GivingWay(unittest.TestCase):
+    """Sheets with a PD: what hydrants ask, draw and lack."""
+
+    def test_what_a_pressure_allows(self):
+        pd = {"minimum": 10.0, "required": 74.0}
+        for pressure, share in ((-1e9, 0.0), (10.0, 0.0), (26.0, 0.5), (46.0, 0.75), (74.0, 1.0), (1e9, 1.0)):
+            self.assertEqual(desk_drawn.allowed(2.0, pressure, pd), 2.0 * share)
+
+    def test_the_range_is_a_tenth_of_a_foot_at_least(self):
+        for required in (3.0, 3.05):
+            pd = {"minimum": 3.0, "required": required}
+            self.assertAlmostEqual(desk_drawn.allowed(1.0, 3.025, pd), 0.5)
+            self.assertEqual(desk_drawn.allowed(1.0, 3.2, pd), 1.0)
+
+    def test_only_a_junction_in_service_that_asks_is_a_hydrant(self):
+        s = Sheet(pressures=(0.0, 64.0))
+        s.junction(demand=1.0)
+        s.junction(demand=0.0)
+        s.junction(demand=-1.0)
+        s.junction(demand=1.0, disabled=1)
+        s.reservoir(demand=1.0)
+        s.tank(demand=1.0)
+        s.junction(demand=2.0)
+        found = made(s, [16.0] * 7, [0.5, 0.0, -1.0, 1.0, 1.0, 3.0, 1.0])
+        self.assertEqual([(h.asked, h.drawn, h.lack) for h in found.hydrants.values()],
+                         [(1.0, 0.5, 0.5), (2.0, 1.0, 1.0)])
+        self.assertEqual(list(found.hydrants), [0, 6])
+
+    def check(self, found, line, status):
+        self.assertEqual((found.first_line(), found.exit_status), (line, status))
+
+    def test_first_lines(self):
+        self.check(row(64.0, 65.0), "solved in 3 trials; every hydrant gets what it asks", 0)
+        self.check(row(64.0, 16.0), "solved in 3 trials; 1 hydrant gets less than it asks, worst node 2, which "
+                   "lacks 0.2500 of 0.5000 cfs", 0)
+        self.check(row(16.0, 0.0, 4.0, unit="LPS"), "solved in 3 trials; 3 hydrants get less than they ask, worst "
+                   "node 2, which lacks 0.5000 of 0.5000 cfs (14.16 of 14.16 LPS)", 0)
+
+    def test_of_equal_lacks_the_lowest_number_is_the_worst(self):
+        self.assertIn("2 hydrants get less than they ask, worst node 2,", row(70.0, 16.0, 16.0).first_line())
+
+    def test_the_worst_lacks_most_as_a_flow(self):
+        s = Sheet(pressures=(0.0, 64.0))
+        s.junction(demand=0.1)
+        s.junction(demand=4.0)
+        self.assertIn("worst node 1, which lacks 2.0000 of 4.0000", made(s, [1.0, 16.0], [0.0125, 2.0]).first_line())
+
+    def test_what_the_solver_adds_at_full_pressure_is_no_lack(self):
+        found = row((200.0, 0.5000014), (64.0, 0.4996))
+        self.assertEqual([h.lack for h in found.hydrants.values()], [0.0, 0.0])
+        self.assertEqual([h.number for h in row((63.9, 0.4994)).short], [1])
+
+    def test_a_drawn_flow_that_does_not_fit_is_not_for_sale(self):
+        line = ("solved in 3 trials, but what %s does not fit the pressure there, worst node %d, which draws %s cfs "
+                "where the pressure allows %s cfs" + NOT_FOR_SALE)
+        self.check(row(64.0, (-11.0, 0.5)), line % ("1 hydrant draws", 2, "0.5000", "0.0000"), 3)
+        self.check(row((64.0, 0.0), 64.0), line % ("1 hydrant draws", 1, "0.0000", "0.5000"), 3)
+        self.check(row((16.0, 0.5), (4.0, 0.5), (4.0, 0.5)),
+                   line % ("3 hydrants draw", 2, "0.5000", "0.1250"), 3)
+
+    def test_the_tolerance(self):
+        # at a quarter of the range half of the demand may be drawn
+        for drawn, fits in ((0.25, True), (0.2549, True), (0.2451, True), (0.2551, False), (0.2449, False)):
+            self.assertEqual(row((16.0, drawn)).clean, fits, drawn)
+        # where next to nothing is asked, what the solver adds at a great pressure is no fault
+        self.assertTrue(row((900.0, 0.000109), asked=0.0001).clean)
+        self.assertFalse(row((900.0, 0.000111), asked=0.0001).clean)
+
+    def test_the_tolerance_in_the_papers(self):
+        paper = read("docs/DESK.md").decode()
+        self.assertIn("%g of what the hydrant asks" % desk_drawn.TOLERANCE, paper)
+        self.assertIn("%g of what it asks" % desk_drawn.SERVED, paper)
+
+    def test_a_repair_and_a_lack_are_both_told(self):
+        found = row(64.0, 16.0)
+        found.entries.append(("GN", 1))
+        found.listing.grounded = 1
+        self.check(found, "solved in 3 trials; 1 hydrant gets less than it asks, worst node 2, which lacks 0.2500 of "
+                   "0.5000 cfs, but with a repair: node 1 was tied to a reservoir that is not there" + NOT_FOR_SALE, 3)
+
+    def test_the_page(self):
+        page = desk_text.page(row(64.0, 16.0, unit="LPS"), False)
+        self.assertRegex(page, r"\n +node +kind .*pressure m +drawn cfs +drawn LPS\n")
+        self.assertIn("\nHydrants\n  no water at a pressure of 0.00 ft (0.00 m) or below, all that is asked from "
+                      "64.00 ft (19.51 m) on\n"
+                      "  node  asked cfs  asked LPS  drawn cfs  drawn LPS  lacks cfs  lacks LPS  lacks %\n"
+                      "     1     0.5000      14.16     0.5000      14.16     0.0000       0.00      0.0\n"
+                      "     2     0.5000      14.16     0.2500       7.08     0.2500       7.08     50.0\n\n", page)
+        self.assertIn("\nBalance\n  asked 1.0000 cfs, supply 0.7500 cfs, error 0.25 cfs, of which the hydrants lack "
+                      "0.2500 cfs\n", page)
+        self.assertIn("does not fit its pressure, which allows 0.0000 cfs\n", desk_text.page(row((-1.0, 0.5)), False))
+
+    def test_the_json(self):
+        (found,) = json.loads(desk_json.document([row(64.0, 16.0, (-1.0, 0.5), unit="LPS")]))
+        self.assertEqual((found["may_be_sold"], found["exit_status"], found["short"], found["unfit"]),
+                         (False, 3, [2], [3]))
+        self.assertEqual((found["pressures"]["minimum_ft"], found["pressures"]["required_ft"]), (0.0, 64.0))
+        self.assertNotIn("asked_cfs", found["nodes"][0])
+        half = found["nodes"][2]
+        self.assertEqual([half[key] for key in ("asked_cfs", "drawn_cfs", "lack_cfs", "allowed_cfs", "fits")],
+                         [0.5, 0.25, 0.25, 0.25, True])
+        self.assertEqual([half[key] for key in ("asked", "drawn", "lack", "allowed")],
+                         [28.317 * x for x in (0.5, 0.25, 0.25, 0.25)])
+        self.assertEqual(half["drawn_cfs_bits"], half["demand_cfs_bits"])
+        self.assertEqual(undocumented(found), [])
+
+    def test_the_picture(self):
+        for found, words, missing in (
+                (row(64.0, 16.0, unit="LPS"), ("7.08", "in LPS", "drawn"), "does not fit"),
+                (row(64.0, (-1.0, 0.5)), ("what it draws does not fit its pressure",), "0.2500"),
+                (row(*range(64)[:60]), ("asked and not drawn",), "does not fit")):
+            shown = picture_words(found)
+            for word in words:
+                self.assertIn(word, shown)
+            self.assertNotIn(missing, shown)
+
+    def test_the_texts_of_the_dry_week_are_its_sheets(self):
+        names = sorted(os.listdir(os.path.join(TOP, DRY_WEEK)))
+        self.assertEqual(names, ["%s.%s" % (name, ending) for name in ("fixed-demands", "giving-way", "no-pressure")
+                                 for ending in ("sheet", "txt")])
+        for name in names[::2]:
+            text = read(DRY_WEEK + "/" + name.replace(".sheet", ".txt"))
+            self.assertEqual(sheet_text.read_scheme(text)[0], read(DRY_WEEK + "/" + name), name)
+            self.assertIn("| dry-week/%s |" % name, read("examples/README.md").decode())
+
+    def test_the_dry_week_is_one_scheme_with_and_without_pressures(self):
+        fixed, bends = (read(DRY_WEEK + "/%s.txt" % name).decode().splitlines()
+                        for name in ("fixed-demands", "giving-way"))
+        self.assertEqual([line for line in bends if line not in fixed], ["pressures  minimum 5 m  required 30 m"])
+        self.assertEqual([line for line in bends if not line.startswith("pressures")], fixed)
+
+    def test_the_smallest_sheet_that_must_not_be_sold_is_in_the_papers(self):
+        data, _ = sheet_text.read_scheme(block_after("docs/DESK.md", "must not be sold: drawn").encode())
+        self.assertEqual(data, read(DRY_WEEK + "/no-pressure.sheet"))
+        self.assertEqual(len(data), 186)
+        found = desk_answer.Answer("x", data, "A 0 0 1 0 0\nT OK 0\nN 0 4059000000000000 0000000000000000\n"
+                                   "N 1 4058c000032f504a 3fefffff23e207b6\nL 0 3fefffff23e207ab 1\n"
+                                   "B 3ff0000000000000 3fefffff23e207ab 3e9b83bf0aa00000\n")
+        line = re.search("`(solved in 1 trial, but what .*?)`", read("docs/DESK.md").decode()).group(1)
+        self.check(found, line, 3)
+
+    def test_no_hydrant_at_all(self):
+        s = Sheet(pressures=(0.0, 64.0))
+        s.reservoir()
+        found = made(s, [100.0], [0.0])
+        self.check(found, "solved in 3 trials; every hydrant gets what it asks", 0)
+        self.assertIn("\nHydrants\n  no water at", everything(found))
 
 
 class Undetermined(unittest.TestCase):
@@ -278,6 +488,58 @@ class Refusals(unittest.TestCase):
                 (b"", 0, "the sheet is empty")):
             self.assertEqual(desk_refusals.explain(sheet, 1, place).why, words)
 
+    def test_a_pd_that_cannot_be_read(self):
+        s = Sheet(pressures=(0.0, 30.0))
+        s.reservoir()
+        s.junction()
+        s.pipe(0, 1)
+        data = s.encode()
+        op, pd, node, rest = data[:29], data[29:47], data[47:92], data[92:]
+        stands = "the pressures record (PD) stands %s: a PD must stand straight after the OP, once"
+        for sheet, place, words in (
+                (data[:40], 29, "the pressures record (PD) is cut short: it has 11 of its 18 bytes"),
+                (op + pd + pd + node, 47, stands % "there a second time"),
+                (op + node + pd + rest, 74, stands % "out of order"),
+                (op + node + rest + pd, 168, stands % "out of order"),
+                (data + pd, 186, stands % "there a second time"),
+                (pd + op + node, 0, stands % "out of order"),
+                (op + pd + op, 47, "the options record stands out of order: ND or LK may come here"),
+                (op + pd + node[:30], 47, "node 0 is cut short: it has 30 of its 45 bytes"),
+                (op + b"XY", 29, "58 59 (hexadecimal) at byte 29 is no record's mark: PD or ND or LK may come here")):
+            self.assertEqual(sheet_bounds.reading(sheet), ("R", 1, place))
+            self.assertEqual(desk_refusals.explain(sheet, 1, place).why, words)
+
+    def test_a_pd_outside_its_bounds(self):
+        finite = "but must be a finite number of at most 2^40 in magnitude"
+        for pair, fields, words in (
+                ((30.0, 20.0), ["required"], "required pressure (20.0 ft) is below minimum pressure (30.0 ft)"),
+                ((float("nan"), 20.0), ["minimum", "required"], "minimum is nan " + finite),
+                ((0.0, float("nan")), ["required"], "required is nan " + finite),
+                ((0.0, float("inf")), ["required"], "required is inf " + finite),
+                ((0.0, float("-inf")), ["required"], "required is -inf " + finite),
+                ((0.0, 2.0 ** 41), ["required"], "required is 2199023255552.0 " + finite)):
+            s = Sheet(pressures=pair)
+            s.reservoir()
+            found = desk_refusals.explain(s.encode(), 3, 29)
+            self.assertEqual([name for name, _, _ in found.fields], fields)
+            self.assertTrue(found.why.startswith("the pressures record (PD): " + words), found.why)
+            self.assertEqual((found.record, found.offset), ("the pressures record (PD)", 29))
+
+    def test_places_behind_a_pd(self):
+        s = Sheet(pressures=(0.0, 30.0))
+        s.reservoir()
+        s.junction(demand=1.0)
+        s.pipe(0, 1)
+        for number, place, offset, words in (
+                (6, 1, 92, "at node 1 (junction) the matrix failed"),
+                (7, 1, 92, "the head of node 1 (junction) became"),
+                (7, 64, 137, "the flow of link 0 (pipe 0 -> 1) became"),
+                (7, 257, 92, "the flow drawn at node 1 (junction) became no number, infinite or at least 2^64")):
+            found = desk_refusals.explain(s.encode(), number, place)
+            self.assertEqual(found.offset, offset)
+            self.assertTrue(found.why.startswith(words), found.why)
+        self.assertEqual(desk_refusals.explain(s.encode(), 7, 258).why, "what is wrong there cannot be told")
+
     def test_counts(self):
         self.assertEqual(self.explained("2-65-nodes").why, "the sheet has 65 nodes; 1 to 64 are allowed")
         self.assertEqual(self.explained("2-129-links").why, "the sheet has 129 links; 0 to 128 are allowed")
@@ -318,25 +580,13 @@ class Json(unittest.TestCase):
         self.assertEqual((found["freed"], found["grounded"], found["undetermined"]), ([2], [], []))
 
     def test_every_key_is_documented(self):
-        paper = read("docs/DESK.md").decode()
-
-        def keys(value):
-            for key, inner in (value.items() if isinstance(value, dict) else ()):
-                yield key
-                yield from keys(inner)
-            for inner in value if isinstance(value, list) else ():
-                yield from keys(inner)
         for name in ("june-both-repaired", "3-end-2"):
-            for key in keys(json.loads(desk_json.document([answer(name)]))):
-                if not key.endswith("_bits"):
-                    self.assertIn("`%s`" % key, paper)
+            self.assertEqual(undocumented(json.loads(desk_json.document([answer(name)]))), [])
 
 
 class Pictures(unittest.TestCase):
     def words(self, name):
-        root = ElementTree.fromstring(desk_plot.picture(answer(name)))
-        return " ".join("".join(element.itertext()) for element in root.iter()
-                        if element.tag.endswith("}text"))
+        return picture_words(answer(name))
 
     def test_every_stored_case_is_well_formed(self):
         for name in BY_NAME:
@@ -422,8 +672,8 @@ class TextForm(unittest.TestCase):
             [(2, "junction needs elevation"),
              (4, "the line ends where the unit of head is expected"),
              (5, "a node is called a already"),
-             (6, "pump is no kind of record; there are options, junction, reservoir, tank, pipe, PRV, PSV, "
-                 "PBV, FCV, TCV, PCV"),
+             (6, "pump is no kind of record; there are options, pressures, junction, reservoir, tank, pipe, PRV, "
+                 "PSV, PBV, FCV, TCV, PCV"),
              (7, "no node is called c"),
              (8, "`pipe START -> END` is expected, the names of two nodes"),
              (9, "PRV has no colour; it may have setting, diameter, minor-loss, flow, status")])
@@ -450,6 +700,35 @@ class TextForm(unittest.TestCase):
         many = "".join("junction n%d elevation 0 ft\n" % k for k in range(65))
         self.assertEqual(self.mistakes(many), [(65, "a sheet holds at most 64 nodes")])
         self.assertEqual(self.mistakes("options\noptions\n"), [(2, "options were given in line 1 already")])
+
+    def test_the_two_pressures(self):
+        rest = "reservoir a head 9 ft\n"
+        for line, pair in (("pressures minimum 3 m required 43.33 psi", (3.0 / 0.3048, 43.33 / 0.4333)),
+                           ("Pressures required 20 ft minimum -1 ft", (-1.0, 20.0)),
+                           ("pressures minimum 0 ft required 0 ft", (0.0, 0.0))):
+            s = Sheet(pressures=pair)
+            s.reservoir(head=9.0)
+            for text in (line + "\n" + rest, rest + line, "options\n" + rest + line):
+                self.assertEqual(self.sheet(text), s.encode())
+
+    def test_mistakes_in_the_two_pressures(self):
+        for line, words in (
+                ("minimum 3 m", "pressures needs required"),
+                ("", "pressures needs minimum and required"),
+                ("minimum 3 required 4 m", "required is no unit for minimum; there are ft, m, psi"),
+                ("minimum 3 lps required 4 m", "lps is no unit for minimum; there are ft, m, psi"),
+                ("minimum 3 m required", "the line ends where the figure of required is expected"),
+                ("minimum 3 m required 4", "the line ends where the unit of required is expected"),
+                ("minimum 3 m required nan m", "nan is no number, but the figure of required is expected"),
+                ("minimum 3 m minimum 3 m", "minimum is given twice"),
+                ("least 3 m", "pressures has no least; it may have minimum, required"),
+                ("minimum 3 ft required 2 ft", "required is 2.0 but must be the minimum pressure or more"),
+                ("minimum 0 ft required 2e12 ft",
+                 "required is 2000000000000.0 but must be a finite number of at most 2^40 in magnitude")):
+            self.assertEqual(self.mistakes("reservoir a head 9 ft\npressures " + line), [(2, words)])
+        once = "pressures minimum 0 ft required 9 ft\n"
+        self.assertEqual(self.mistakes(once + "reservoir a head 9 ft\n" + once),
+                         [(3, "pressures were given in line 1 already")])
 
     def test_not_text(self):
         with self.assertRaises(sheet_text.Mistakes) as caught:

@@ -42,8 +42,7 @@ def stored_text():
 def balance(data, flows):
     """Demand, supply and error by the rules: the demand of junctions in service, in node order; the supply as
     in the Rust's `flow_balance`."""
-    nodes = [f for _, mark, f in decode(data) if mark == b"ND"]
-    links = [f for _, mark, f in decode(data) if mark == b"LK"]
+    nodes, links = records(data, b"ND"), records(data, b"LK")
     demand = supply = 0.0
     for node in nodes:
         if node["kind"] == 0 and not node["disabled"]:
@@ -54,6 +53,29 @@ def balance(data, flows):
         if nodes[link["start"]]["kind"] != 0:
             supply += flow
     return demand, supply, demand - supply
+
+
+def records(data, wanted):
+    return [fields for _, mark, fields in decode(data) if mark == wanted]
+
+
+def bends(node):
+    return node["kind"] == 0 and not node["disabled"] and node["demand"] > 0
+
+
+def copied(data, flows):
+    """(node, what it draws) for each node whose demand does not bend: a tank in service its net inflow, links
+    that end at it first, else what the sheet asks."""
+    links = list(zip(records(data, b"LK"), flows))
+    for i, node in enumerate(records(data, b"ND")):
+        if node["kind"] == 2 and not node["disabled"]:
+            inflow = 0.0
+            for side, sign in (("end", 1.0), ("start", -1.0)):
+                for link, flow in links:
+                    inflow += sign * flow if link[side] == i else 0.0
+            yield i, inflow
+        elif not bends(node):
+            yield i, node["demand"]
 
 
 class StoredList(unittest.TestCase):
@@ -115,8 +137,7 @@ class StoredList(unittest.TestCase):
         solved = set()
         for case in self.cases:
             if self.answers[case.name].number == 0:
-                links = [f for _, mark, f in decode(case.data) if mark == b"LK"]
-                solved |= {(f["kind"], f["status"]) for f in links}
+                solved |= {(f["kind"], f["status"]) for f in records(case.data, b"LK")}
         self.assertEqual(len(solved), len(LINK_KINDS) * len(STATUSES))
 
     def test_freed_and_grounded_in_one_solve(self):
@@ -166,6 +187,93 @@ class StoredList(unittest.TestCase):
         self.assertEqual(self.answers["B22-status-codes"].statuses, list(range(8)))
 
 
+class UnderPressure(unittest.TestCase):
+    """The cases of the stored list that have a PD, by the oracle's answers."""
+
+    @classmethod
+    def setUpClass(cls):
+        pairs = zip(sheets.stored(), oracle.split(stored_text()))
+        found = [(case, oracle.Listing(text)) for case, text in pairs if case.data[29:31] == b"PD"]
+        cls.answers = {case.name: answer for case, answer in found}
+        cls.solved = [(case, answer) for case, answer in found if answer.number == 0]
+
+    def drawn(self):
+        """(asked, drawn) of each demand that bends."""
+        for case, answer in self.solved:
+            for node, demand in zip(records(case.data, b"ND"), answer.demands):
+                if bends(node):
+                    yield node["demand"], demand
+
+    def test_every_number_place_and_mark(self):
+        self.assertGreater(len(self.answers), 300)
+        answers = self.answers.values()
+        self.assertEqual({a.number for a in answers}, {0, 1, 2, 3, 4, 6, 7, 8})
+        columns = {(a.place >= 64) + (a.place >= 256) for a in answers if a.number == 7}
+        self.assertEqual(columns, {0, 1, 2})
+        marks = [entry[:2] for a in answers for entry in a.record]
+        self.assertEqual(set(marks), {"VF", "GN", "SG", "NF", "OK", "ST"})
+        self.assertGreater(min(marks.count("VF"), marks.count("GN")), 10)
+
+    def test_every_measure_of_supply(self):
+        pairs = list(self.drawn())
+        near = 1e-5
+        for least, kind in (
+                (100, lambda asked, drawn: near < drawn < 0.99 * asked),
+                (100, lambda asked, drawn: abs(drawn - asked) < near),
+                (100, lambda asked, drawn: abs(drawn) < near),
+                (1, lambda asked, drawn: drawn == asked),
+                (1, lambda asked, drawn: drawn == 0.0),
+                # a little over and a little back, at the ends of the curve
+                (50, lambda asked, drawn: asked < drawn < asked + near),
+                (50, lambda asked, drawn: -near < drawn < 0.0)):
+            self.assertGreaterEqual(sum(kind(*pair) for pair in pairs), least)
+
+    def test_every_kind_of_sheet(self):
+        pairs = [records(case.data, b"PD")[0] for case, _ in self.solved]
+        self.assertGreater(sum(pair["minimum"] == pair["required"] for pair in pairs), 10)
+        self.assertGreater(sum(pair["minimum"] < 0 for pair in pairs), 10)
+        nodes = [node for case, _ in self.solved for node in records(case.data, b"ND")]
+        for kind in (lambda n: n["kind"] == 2 and not n["disabled"], lambda n: n["kind"] == 1 and n["demand"] > 0,
+                     lambda n: n["disabled"] and n["demand"] > 0, lambda n: n["kind"] == 0 and n["demand"] < 0,
+                     lambda n: n["kind"] == 0 and n["demand"] == 0):
+            self.assertGreater(sum(map(kind, nodes)), 5)
+        kinds = {(f["kind"], f["status"]) for case, _ in self.solved for f in records(case.data, b"LK")}
+        self.assertGreaterEqual(len(kinds), 50)
+
+    def test_what_does_not_bend_is_copied(self):
+        count = 0
+        for case, answer in self.solved:
+            for node, drawn in copied(case.data, answer.flows):
+                self.assertEqual(answer.demands[node], drawn, (case.name, node))
+                count += 1
+        self.assertGreater(count, 500)
+
+    def test_whole_demand_at_no_pressure(self):
+        first, later = self.answers["pd-whole-at-no-pressure"], self.answers["pd-none-at-no-pressure"]
+        self.assertEqual((first.record, len(sheets.one("pd-whole-at-no-pressure"))), (["OK 0"], 186))
+        self.assertLess(first.heads[1], 0.0)
+        self.assertAlmostEqual(first.demands[1], 0.5, places=5)
+        self.assertAlmostEqual(later.demands[1], 0.0, places=5)
+        second = self.answers["pd-whole-at-second-trial"]
+        self.assertEqual(second.record, ["ST 0", "OK 0"])
+        self.assertAlmostEqual(second.heads[1], 10.0, places=6)
+        self.assertAlmostEqual(second.demands[1], 0.5, places=5)
+
+    def test_nothing_drawn_at_pressure(self):
+        found = self.answers["pd-none-at-pressure"]
+        self.assertAlmostEqual(found.heads[1] - 60.0, 40.0, places=4)
+        self.assertAlmostEqual(found.demands[1], 0.0, places=5)
+
+    def test_a_demand_stands_for_a_ground(self):
+        alone = self.answers["pd-not-grounded"]
+        self.assertEqual((alone.heads, alone.demands, alone.grounded), ([12.0], [0.0], 0))
+
+    def test_balance_is_of_what_is_asked(self):
+        short = self.answers["pd-short"]
+        self.assertEqual(short.balance[0], 0.5)
+        self.assertAlmostEqual(short.balance[2], 0.5 - short.demands[1], places=5)
+
+
 class Tools(unittest.TestCase):
     def test_a_sheet_written_and_read(self):
         s = Sheet(accuracy=0.01, trials=7, unit="LPS")
@@ -183,7 +291,7 @@ class Tools(unittest.TestCase):
         self.assertEqual(decode(s.encode()[:-1])[-1][:2], (119, None))
 
     def test_a_seed_is_a_sheet(self):
-        for kind in ("boundary", "real", "wild", "damaged"):
+        for kind in ("boundary", *sheets.MAKERS):
             count = 800 if kind == "boundary" else 20
             first = [case.data for case in sheets.generate(kind, 1, count)]
             self.assertEqual(first, [case.data for case in sheets.generate(kind, 1, count)])

@@ -1,4 +1,5 @@
-"""Refusals 1 to 4: the second reading of document 01 against the stored list, and what crate sheet_list replays."""
+"""Refusals 1 to 4: the second reading of documents 01 and 02 against the stored list, and what crate sheet_list
+replays."""
 import os
 import sys
 import unittest
@@ -37,16 +38,27 @@ class Reading(unittest.TestCase):
         self.assertTrue(any(a.startswith("G ") and a.endswith(" 128") for a in answers))
         self.assertGreaterEqual(len(answers), 700)
 
-    def test_each_cut_is_refused_at_its_record(self):
-        cuts = sheet_reading.cuts()
-        starts = [0, 29, 74, 119, 168]
+    def cut(self, cuts, whole):
+        """`whole` has the reading of each beginning that ends with a record."""
         for n, data in enumerate(cuts):
-            kind, number, place = sheet_bounds.reading(data)
-            if n in starts[1:]:
-                whole = {29: ("R", 2, 0), 74: ("G", 1, 0), 119: ("G", 2, 0), 168: ("G", 2, 1)}[n]
-                self.assertEqual((kind, number, place), whole)
-            else:
-                self.assertEqual((kind, number, place), ("R", 1, max(s for s in starts if s <= n)))
+            refused = "R", 1, max([0] + [end for end in whole if end <= n])
+            self.assertEqual(sheet_bounds.reading(data), whole.get(n, refused), n)
+
+    def test_each_cut_is_refused_at_its_record(self):
+        self.cut(sheet_reading.cuts(), {29: ("R", 2, 0), 74: ("G", 1, 0), 119: ("G", 2, 0), 168: ("G", 2, 1)})
+
+    def test_each_cut_of_a_sheet_with_a_pd(self):
+        self.cut(sheet_reading.cuts((5.0, 20.0)), {29: ("R", 2, 0), 47: ("R", 2, 0), 92: ("G", 1, 0),
+                                                   137: ("G", 2, 0), 186: ("G", 2, 1)})
+
+    def test_what_is_wrong_with_a_pd(self):
+        faults = lambda minimum, required: sheet_bounds.faults(
+            b"PD", dict(minimum=minimum, required=required), 1)
+        for pair in ((5.0, 20.0), (5.0, 5.0), (-0.0, 0.0), (0.0, -0.0), (-2.0 ** 40, 2.0 ** 40)):
+            self.assertEqual(faults(*pair), [])
+        self.assertEqual(faults(20.0, 5.0), [("required", "the minimum pressure or more")])
+        bound = "a finite number of at most 2^40 in magnitude"
+        self.assertEqual(faults(float("nan"), float("inf")), [("minimum", bound), ("required", bound)])
 
 
 if __name__ == "__main__":

@@ -1,14 +1,19 @@
 """A sheet, the listing that the proved program gave for it, and what a desk must know of the two."""
+import desk_drawn
 import desk_network
 import desk_refusals
 import sheet_bounds
-from desk_words import Units, counted, link_words, listed, node_words, numbered
+from desk_words import Units, counted, flow_words, link_words, listed, node_words, numbered
 from listings import Listing
 from sheet_format import LINK_KINDS
 
 # exit statuses
 CLEAN, REFUSED, BAD_USE, DOUBTFUL = 0, 1, 2, 3
 NOT_FOR_SALE = "these pressures must not be sold on"
+
+
+def said_of(hydrants, one, several):
+    return counted(len(hydrants), "hydrant") + " " + (one if len(hydrants) == 1 else several)
 
 
 class Answer:
@@ -24,9 +29,16 @@ class Answer:
             data, self.listing.number, self.listing.place)
         self.units = Units(found[0][2]["unit"]) if self.solved else None
         self.undetermined = self.find_undetermined() if self.solved else []
+        # the two pressures that demand gives way between, or None
+        self.pd = next((fields for _, mark, fields in found if mark == b"PD"), None)
+        self.hydrants = self.find_hydrants() if self.solved and self.pd else {}
 
     def find_undetermined(self):
         return desk_network.undetermined(self.nodes, self.links, self.listing.statuses, self.listing.flows)
+
+    def find_hydrants(self):
+        pressures = [self.pressure(i) for i in range(len(self.nodes))]
+        return desk_drawn.hydrants(self.nodes, self.listing.demands, pressures, self.pd)
 
     def repaired(self, mark):
         """The links freed (VF) or the nodes grounded (GN), each once, in the order of the record."""
@@ -41,8 +53,18 @@ class Answer:
         return self.repaired("GN")
 
     @property
+    def short(self):
+        """The hydrants that get less than they ask."""
+        return [h for h in self.hydrants.values() if h.lack]
+
+    @property
+    def unfit(self):
+        """The hydrants whose drawn flow does not fit their pressure."""
+        return [h for h in self.hydrants.values() if not h.fits]
+
+    @property
     def clean(self):
-        return self.solved and not (self.freed or self.grounded or self.undetermined)
+        return self.solved and not (self.freed or self.grounded or self.undetermined or self.unfit)
 
     @property
     def exit_status(self):
@@ -62,8 +84,8 @@ class Answer:
         if not self.solved:
             return "refused, number %d at place %d: %s" % (
                 self.refusal.number, self.refusal.place, self.refusal.why)
-        line = "solved in " + counted(self.listing.trials, "trial")
-        doubts = self.repair_words() + self.undetermined_words()
+        line = "solved in " + counted(self.listing.trials, "trial") + self.short_words()
+        doubts = self.repair_words() + self.undetermined_words() + self.unfit_words()
         return line if not doubts else "%s, but %s; %s" % (line, "; ".join(doubts), NOT_FOR_SALE)
 
     def freed_words(self, number):
@@ -85,6 +107,25 @@ class Answer:
             return []
         return ["nothing determines the head%s of %s" % (
             "" if len(self.undetermined) == 1 else "s", numbered("node", self.undetermined))]
+
+    def short_words(self):
+        # drawn flows that do not fit say nothing about who gets less
+        if self.pd is None or self.unfit:
+            return ""
+        if not self.short:
+            return "; every hydrant gets what it asks"
+        worst = desk_drawn.worst(self.short, lambda h: h.lack)
+        return "; %s, worst node %d, which lacks %s" % (
+            said_of(self.short, "gets less than it asks", "get less than they ask"), worst.number,
+            flow_words(self.units, worst.lack, worst.asked))
+
+    def unfit_words(self):
+        if not self.unfit:
+            return []
+        worst = desk_drawn.worst(self.unfit, lambda h: abs(h.drawn - h.allowed))
+        return ["what %s does not fit the pressure there, worst node %d, which draws %s where the pressure "
+                "allows %s" % (said_of(self.unfit, "draws", "draw"), worst.number,
+                               flow_words(self.units, worst.drawn), flow_words(self.units, worst.allowed))]
 
 
 def entry_words(answer, mark, number):

@@ -35,7 +35,22 @@ def node(answer, i):
              "grounded": i in answer.grounded, "undetermined": i in answer.undetermined}
     found.update(numbers(elevation_ft=fields["elevation"], head_ft=head, pressure_ft=pressure, demand_cfs=demand,
                          pressure=pressure * units.per_foot, demand=demand * units.per_cfs))
+    found.update(hydrant(answer.hydrants[i], units) if i in answer.hydrants else {})
     return found
+
+
+def hydrant(found, units):
+    """What a hydrant's node has besides."""
+    per = units.per_cfs
+    return dict(numbers(asked_cfs=found.asked, drawn_cfs=found.drawn, lack_cfs=found.lack, allowed_cfs=found.allowed,
+                        asked=found.asked * per, drawn=found.drawn * per, lack=found.lack * per,
+                        allowed=found.allowed * per), fits=found.fits)
+
+
+def giving_way(answer):
+    """What an answer to a sheet with a PD has besides."""
+    return {"pressures": numbers(minimum_ft=answer.pd["minimum"], required_ft=answer.pd["required"]),
+            "short": [h.number for h in answer.short], "unfit": [h.number for h in answer.unfit]}
 
 
 def link(answer, i):
@@ -71,6 +86,7 @@ def answer_keys(answer):
         "refusal": None if answer.solved else refusal(answer),
     }
     found.update(results(answer) if answer.solved else {})
+    found.update(giving_way(answer) if answer.solved and answer.pd else {})
     return found
 
 

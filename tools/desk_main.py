@@ -13,11 +13,11 @@ from sheet_format import shown
 
 DESCRIPTION = "Solves network sheets by the proved program and tells a person or a program what came out."
 EPILOG = """exit status:
-  0  every sheet was solved, with no repair and every head determined
+  0  every sheet was solved, with no repair, every head determined and every drawn flow fitting its pressure
   1  a sheet was refused by the solver; that is an answer, and the first line says why
   2  bad use: wrong arguments, a file that cannot be read or is empty, no program to ask
-  3  a sheet was solved with a repair, or with heads that nothing determines:
-     its pressures must not be sold on
+  3  a sheet was solved with a repair, with heads that nothing determines, or with a drawn flow that does not
+     fit its pressure: its pressures must not be sold on
   of several sheets the gravest counts: 2, then 3, then 1
 
 docs/DESK.md says what the output means, docs/SHEETS.md how to write a sheet by hand."""

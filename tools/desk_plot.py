@@ -1,18 +1,22 @@
 """An answer as a picture (SVG): each node a bar from its elevation up to its head, so that the bar's length
-is its pressure. Freed valves, grounded nodes and undetermined heads are marked."""
+is its pressure. Freed valves, grounded nodes and undetermined heads are marked. Where demand gives way to
+pressure, a gauge under each hydrant shows how much of what it asks it draws."""
 import math
 import os
 import textwrap
 from html import escape
 
 from desk_network import HOLDS, along, in_service
-from desk_words import METRES_PER_FOOT, fixed
+from desk_words import METRES_PER_FOOT, fixed, flow_figures
 from sheet_format import LINK_KINDS, NODE_KINDS
 
 COLOURS = {"junction": "#3b78b5", "reservoir": "#1f8f82", "tank": "#7a9a2e"}
 NEGATIVE, DOUBT, GROUND, INK = "#8e44ad", "#c0392b", "#7a5a3a", "#222"
 LEFT, RIGHT, PLOT_HEIGHT, BRACKET = 76, 66, 320, 22
 UP, DOWN = "\u2191", "\u2193"
+# a gauge, the line of figures under it, and the room that both take
+GAUGE, GAUGE_LINE, GAUGE_ROOM = 34, 14, 58
+DRAWN, LACKED = "#3b78b5", "#f6d9a8"
 LEAST_WIDTH, LINE = 700, 17
 STYLE = ("text{font-family:Helvetica,Arial,sans-serif;font-size:12px;fill:%s}"
          ".t{font-size:15px;font-weight:bold}.d{fill:%s;font-weight:bold}" % (INK, DOUBT))
@@ -65,6 +69,8 @@ class Frame:
         self.slot = (self.width - LEFT - RIGHT) / len(self.order)
         self.top, self.bottom = top, top + PLOT_HEIGHT
         self.low, self.high = span(answer)
+        # below the numbers of the nodes
+        self.under = self.bottom + (GAUGE_ROOM if answer.pd else 0)
 
     def x(self, node):
         """The middle of a node's bar."""
@@ -146,6 +152,20 @@ def bracket(answer, frame, number, level):
     yield text((a + b) / 2, y - 5, "%s at link %d freed" % (LINK_KINDS[link["kind"]], number), "d", "middle")
 
 
+def gauge(answer, frame, hydrant):
+    """All that a hydrant asks, filled as far as it draws; under it what it lacks."""
+    x, y, wide = frame.x(hydrant.number), frame.bottom + 24, frame.slot * 0.4
+    full = GAUGE * min(1.0, max(0.0, hydrant.drawn / hydrant.asked))
+    yield box(x - wide / 2, y, wide, GAUGE, LACKED, "none" if hydrant.fits else DOUBT)
+    yield box(x - wide / 2, y + GAUGE - full, wide, full, DRAWN)
+    if hydrant.lack:
+        figure = flow_figures(answer.units, hydrant.lack)[-1]
+        if frame.slot >= 44:
+            yield text(x, y + GAUGE + GAUGE_LINE, figure, "" if hydrant.fits else "d", "middle")
+        else:
+            yield text(x + 4, y + GAUGE - 3, figure, "" if hydrant.fits else "d", turn=-90)
+
+
 def axes(answer, frame):
     right = frame.width - RIGHT
     for height in ticks(frame.low, frame.high):
@@ -162,7 +182,7 @@ def axes(answer, frame):
     yield line(LEFT, frame.top, LEFT, frame.bottom, INK)
     yield line(LEFT, frame.bottom, right, frame.bottom, INK)
     yield text(20, (frame.top + frame.bottom) / 2, "elevation and head, ft", anchor="middle", turn=-90)
-    yield text((LEFT + right) / 2, frame.bottom + 36,
+    yield text((LEFT + right) / 2, frame.under + 36,
                "node, in the order of a walk along the links from the highest source", anchor="middle")
 
 
@@ -188,11 +208,16 @@ def legend_items(answer, frame):
         yield swatch("none", DOUBT), "grounded: tied to a reservoir that is not there"
     if answer.freed:
         yield (lambda x, y: line(x, y - 4, x + 16, y - 4, DOUBT, 2.2)), "freed valve, between its two nodes"
+    if answer.hydrants:
+        yield swatch(DRAWN), "under a hydrant: drawn"
+        yield swatch(LACKED), "asked and not drawn; the figure is what it lacks, in " + answer.units.flow
+    if answer.unfit:
+        yield swatch(LACKED, DOUBT), "what it draws does not fit its pressure"
 
 
 def legend(answer, frame):
     """The drawing, and the height it takes."""
-    x, y, drawn = LEFT, frame.bottom + 62, []
+    x, y, drawn = LEFT, frame.under + 62, []
     for draw, words in legend_items(answer, frame):
         wide = 28 + 6.7 * len(words)
         if x > LEFT and x + wide > frame.width - 10:
@@ -247,5 +272,7 @@ def picture(answer):
         drawn.append(set_mark(frame.x(node) - frame.slot / 2, frame.x(node) + frame.slot / 2, frame.y(head)))
     for level, number in enumerate(answer.freed):
         drawn += bracket(answer, frame, number, level)
+    for hydrant in answer.hydrants.values():
+        drawn += gauge(answer, frame, hydrant)
     below, height = legend(answer, frame)
     return document(width, height, drawn + below)

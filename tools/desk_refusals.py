@@ -13,10 +13,10 @@ MEANINGS = {
     7: "a head or a flow ran away",
     8: "the trials were used up without an answer",
 }
-TITLES = {b"OP": "the options record", b"ND": "node", b"LK": "link"}
+TITLES = {b"OP": "the options record", b"PD": "the pressures record (PD)", b"ND": "node", b"LK": "link"}
 ROOMS = ("heads", "demands", "flows", "statuses", "record", "scratch")
-# a place from here on names a link where below it names a node (refusal 7)
-FIRST_LINK_PLACE = 64
+# from where on a place of refusal 7 names a link, and from where what a node draws; below, a node's head
+FIRST_LINK_PLACE, FIRST_DRAWN_PLACE = 64, 256
 
 
 class Refusal:
@@ -31,7 +31,7 @@ class Refusal:
 
 def title(mark, number, fields=None):
     """A record in words; `fields` where it can be read."""
-    if mark == b"OP":
+    if mark in (b"OP", b"PD"):
         return TITLES[mark]
     if fields is None:
         return "%s %d" % (TITLES[mark], number)
@@ -66,6 +66,11 @@ def unreadable(data, place):
     if place == 0 and looks_like_text(data):
         return Refusal(1, place, "the file is text and not a sheet",
                        "turn the text form into a sheet first: ./desk --sheet TEXTFILE -o FILE.sheet")
+    if mark == b"PD":
+        return Refusal(1, place, "%s stands %s: a PD must stand straight after the OP, once" % (
+            title(mark, number), "there a second time" if number else "out of order"),
+            "put the records in order: one OP, its PD if there is one, then all ND, then all LK",
+            title(mark, number), place)
     if mark in TITLES:
         return Refusal(1, place, "%s stands out of order: %s may come here" % (title(mark, number), layout),
                        "put the records in order: one OP, then all ND, then all LK", title(mark, number), place)
@@ -101,10 +106,16 @@ def in_words(name):
     return name.replace("_", " ")
 
 
+def fault_words(fields, name, must):
+    if name == "required" and -sheet_bounds.LIMIT <= fields[name] < fields["minimum"]:
+        return "required pressure (%r ft) is below minimum pressure (%r ft)" % (fields["required"], fields["minimum"])
+    return "%s is %r but must be %s" % (in_words(name), fields[name], must)
+
+
 def of_fields(number, place, mark, count, fields, faults):
     record = title(mark, count, fields)
     told = [(name, fields[name], must) for name, must in faults]
-    wrong = ["%s is %r but must be %s" % (in_words(name), value, must) for name, value, must in told]
+    wrong = [fault_words(fields, name, must) for name, must in faults]
     mend = "correct its %s where the sheet was made; ./desk --explain SHEET shows the whole record" % (
         " and its ".join(in_words(name) for name, _, _ in told))
     if not told:
@@ -128,29 +139,33 @@ def too_little_room(data, place):
                    "nothing in the sheet: the program that called the solver must lend more")
 
 
-def node_at(data, number):
-    mark, offset = b"ND", BYTES[b"OP"] + BYTES[b"ND"] * number
-    return title(mark, number, at_record(data, offset)[2]), offset
-
-
-def link_at(data, number):
-    nodes = at_record(data, 0)[3]
-    offset = BYTES[b"OP"] + BYTES[b"ND"] * len(nodes) + BYTES[b"LK"] * number
-    return title(b"LK", number, at_record(data, offset)[2]), offset
+def record_of(data, mark, number):
+    """A record in words and its offset, by its number among its kind."""
+    found, _ = sheet_bounds.records(data)
+    offset, fields = [(at, fields) for at, m, fields in found if m == mark][number]
+    return title(mark, number, fields), offset
 
 
 def singular(data, place):
-    record, offset = node_at(data, place)
+    record, offset = record_of(data, b"ND", place)
     return Refusal(6, place, "at %s the matrix failed again though the node was grounded" % record,
                    "look at what joins this node to a source, and for links of next to no resistance there",
                    record, offset)
 
 
+def run_away(place):
+    """What a place of refusal 7 names: in words, and the mark and number of its record."""
+    if place >= FIRST_DRAWN_PLACE:
+        return "flow drawn at", b"ND", place - FIRST_DRAWN_PLACE
+    if place >= FIRST_LINK_PLACE:
+        return "flow of", b"LK", place - FIRST_LINK_PLACE
+    return "head of", b"ND", place
+
+
 def ran_away(data, place):
-    is_link = place >= FIRST_LINK_PLACE
-    record, offset = link_at(data, place - FIRST_LINK_PLACE) if is_link else node_at(data, place)
-    return Refusal(7, place, "the %s of %s became no number, infinite or at least 2^64 in magnitude" % (
-        "flow" if is_link else "head", record),
+    what, mark, number = run_away(place)
+    record, offset = record_of(data, mark, number)
+    return Refusal(7, place, "the %s %s became no number, infinite or at least 2^64 in magnitude" % (what, record),
         "look for a demand, a setting, a resistance or a first flow near it that is far too great "
         "(all are in feet and cubic feet per second)", record, offset)
 

@@ -1,7 +1,8 @@
 """An answer for a person."""
 from desk_answer import record_words
+from desk_drawn import pressure_range
 from desk_network import JUNCTION, in_service
-from desk_words import fixed, small
+from desk_words import fixed, flow_figures, flow_words, pressure_words, small
 from sheet_format import LINK_KINDS, NODE_KINDS, STATUSES
 
 
@@ -25,11 +26,6 @@ def node_marks(answer, number):
     return ", ".join(mark for mark, there in marks if there)
 
 
-def flows(units, x):
-    """A flow in cubic feet per second and, if that is another, in the sheet's unit."""
-    return [fixed(x, 4)] + ([fixed(x * units.per_cfs, 2)] if units.flow != "CFS" else [])
-
-
 def flow_names(units, word):
     return [word + " cfs"] + ([word + " " + units.flow] if units.flow != "CFS" else [])
 
@@ -40,14 +36,37 @@ def node_row(answer, number):
     heads = [head] + ([head * units.per_foot] if units.metric else [])
     return ([str(number), NODE_KINDS[answer.nodes[number]["kind"]]]
             + [fixed(x, 2) for x in heads + [pressure, pressure * units.per_foot]]
-            + flows(units, listing.demands[number]) + [node_marks(answer, number)])
+            + flow_figures(units, listing.demands[number]) + [node_marks(answer, number)])
 
 
 def nodes(answer):
     units = answer.units
     header = (["node", "<kind", "head ft"] + (["head m"] if units.metric else [])
-              + ["pressure ft", "pressure " + units.pressure] + flow_names(units, "demand") + ["<"])
+              + ["pressure ft", "pressure " + units.pressure]
+              + flow_names(units, "drawn" if answer.pd else "demand") + ["<"])
     return table(header, [node_row(answer, i) for i in range(len(answer.nodes))])
+
+
+def hydrant_row(answer, hydrant):
+    return ([str(hydrant.number)]
+            + [figure for flow in (hydrant.asked, hydrant.drawn, hydrant.lack)
+               for figure in flow_figures(answer.units, flow)]
+            + [fixed(100.0 * hydrant.lack / hydrant.asked, 1), "" if hydrant.fits else unfit_mark(answer, hydrant)])
+
+
+def unfit_mark(answer, hydrant):
+    return "does not fit its pressure, which allows " + flow_words(answer.units, hydrant.allowed)
+
+
+def hydrants(answer):
+    """What each hydrant asks, draws and lacks; nothing without a PD."""
+    if answer.pd is None:
+        return
+    least = answer.pd["minimum"]
+    yield "  no water at a pressure of %s or below, all that is asked from %s on" % tuple(
+        pressure_words(answer.units, feet) for feet in (least, least + pressure_range(answer.pd)))
+    header = ["node"] + [name for word in ("asked", "drawn", "lacks") for name in flow_names(answer.units, word)]
+    yield from table(header + ["lacks %", "<"], [hydrant_row(answer, h) for h in answer.hydrants.values()])
 
 
 def link_marks(answer, number):
@@ -62,7 +81,7 @@ def link_marks(answer, number):
 def link_row(answer, number):
     link, listing = answer.links[number], answer.listing
     return ([str(number), LINK_KINDS[link["kind"]], str(link["start"]), str(link["end"])]
-            + flows(answer.units, listing.flows[number])
+            + flow_figures(answer.units, listing.flows[number])
             + [STATUSES[listing.statuses[number]], link_marks(answer, number)])
 
 
@@ -73,7 +92,9 @@ def links(answer):
 
 def balance(answer):
     demand, supply, error = answer.listing.balance
-    yield "  demand %s cfs, supply %s cfs, error %s cfs" % (fixed(demand, 4), fixed(supply, 4), small(error))
+    yield "  %s %s cfs, supply %s cfs, error %s cfs%s" % (
+        "asked" if answer.pd else "demand", fixed(demand, 4), fixed(supply, 4), small(error),
+        ", of which the hydrants lack %s cfs" % fixed(sum(h.lack for h in answer.short), 4) if answer.short else "")
 
 
 def record(answer):
@@ -97,6 +118,7 @@ def refused(answer):
 
 def solved(answer):
     return (section("Nodes", nodes(answer))
+            + section("Hydrants", hydrants(answer))
             + (section("Links", links(answer)) if answer.links else [])
             + section("Balance", balance(answer))
             + section("Trials", record(answer)))

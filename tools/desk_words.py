@@ -29,6 +29,21 @@ def small(x):
     return "0" if x == 0 else "%.2g" % x
 
 
+def flow_figures(units, x):
+    """A flow in cubic feet per second and, if that is another, in the sheet's unit."""
+    return [fixed(x, 4)] + ([fixed(x * units.per_cfs, 2)] if units.flow != "CFS" else [])
+
+
+def flow_words(units, *flows):
+    """`0.5000 cfs (14.16 LPS)`; of two flows `0.2000 of 0.5000 cfs (5.66 of 14.16 LPS)`."""
+    figures = [" of ".join(column) for column in zip(*(flow_figures(units, x) for x in flows))]
+    return figures[0] + " cfs" + (" (%s %s)" % (figures[1], units.flow) if figures[1:] else "")
+
+
+def pressure_words(units, feet):
+    return "%s ft (%s %s)" % (fixed(feet, 2), fixed(feet * units.per_foot, 2), units.pressure)
+
+
 def counted(count, word):
     return "%d %s%s" % (count, word, "" if count == 1 else "s")
 

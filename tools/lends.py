@@ -1,5 +1,6 @@
 #!/usr/bin/env python3
-"""What the solver may change of the buffers lent to it, by document 01 alone, and the cases that crate lends runs.
+"""What the solver may change of the buffers lent to it, by documents 01 and 02 alone, and the cases that crate
+lends runs.
 
   lends.py     writes stdin and stdout of crate lends
 """
@@ -56,18 +57,31 @@ def lent(data):
     return chosen
 
 
+def chosen(pairs):
+    """Of each number the first sheets, the shortest first; then the longest that is solved."""
+    of_number = {}
+    for data, text in sorted(pairs, key=lambda pair: len(pair[0])):
+        of_number.setdefault(int(text.split()[1]), []).append((data, text))
+    for number in sorted(of_number):
+        yield from of_number[number][:3]
+    yield max((pair for pair in pairs if pair[1].startswith("A 0 ")), key=lambda pair: len(pair[0]))
+
+
+def drawn_sevens(pairs):
+    """The shortest sheet that a drawn flow ends."""
+    ended = [pair for pair in pairs if pair[1].startswith("A 7 ") and int(pair[1].split()[2]) >= 256]
+    yield min(ended, key=lambda pair: len(pair[0]))
+
+
 def cases():
-    """Of each number the first sheets of the stored list, the shortest sheets first."""
+    """From the stored list as it was before PD, then from what came with PD."""
     texts = oracle.split(stored.read("crates/replay/stdout").decode())
-    chosen = {}
-    for case, text in sorted(zip(sheets.stored(), texts), key=lambda pair: len(pair[0].data)):
-        of_number = chosen.setdefault(int(text.split()[1]), [])
-        if len(of_number) < 3:
-            of_number.append((case.data, text))
-    largest = max(((c.data, t) for c, t in zip(sheets.stored(), texts) if t.startswith("A 0 ")), key=lambda pair: len(pair[0]))
-    for number in sorted(chosen):
-        yield from chosen[number]
-    yield largest
+    pairs = [(case.data, text) for case, text in zip(sheets.stored(), texts)]
+    first = len(sheets.stored_first())
+    with_pd = [pair for pair in pairs[first:] if pair[0][29:31] == b"PD"]
+    yield from chosen(pairs[:first])
+    yield from chosen(with_pd)
+    yield from drawn_sevens(with_pd)
 
 
 def files():

@@ -21,15 +21,24 @@ CODES = {"kind": range(9), "disabled": range(3), "overflow": range(3),
          "trials": (0, 1, 2, 199, 200, 201), "start": range(5), "end": range(5)}
 
 
-def seeded(seed, i):
-    """A small network with one field, or two, set to a value at some bound."""
-    dice = Dice(seed, 4, i)
-    s = between(dice.choice(VALVES), dice.choice(STATUSES))
+def one_valve(dice):
+    return between(dice.choice(VALVES), dice.choice(STATUSES))
+
+
+def at_bounds(dice, name, s):
+    """The sheet with one field, or two, set to a value at some bound."""
+    groups = [(b"OP", [s.op]), (b"ND", s.nodes), (b"LK", s.links)] + ([(b"PD", [s.pd])] if s.pd else [])
     done = []
     for _ in range(1 + dice.below(2)):
-        mark, records = dice.choice(((b"OP", [s.op]), (b"ND", s.nodes), (b"LK", s.links)))
+        mark, records = dice.choice(groups)
         fields = dice.choice(records)
         field = dice.choice(sorted(fields))
         fields[field] = dice.choice(EDGES if field in FLOATS[mark] else CODES[field])
         done.append("%s %s %r" % (mark.decode(), field, fields[field]))
-    return Case("boundary-%d-%d" % (seed, i), ", ".join(done), s)
+    return Case(name, ", ".join(done), s)
+
+
+def seeded(seed, i):
+    """A small network with a field or two at some bound."""
+    dice = Dice(seed, 4, i)
+    return at_bounds(dice, "boundary-%d-%d" % (seed, i), one_valve(dice))

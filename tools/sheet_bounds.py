@@ -1,5 +1,5 @@
-"""Refusals 1 to 4, read from document 01 a second time: the first record that is wrong, and which of its
-fields are. The proved program decides; this says in words what it decided."""
+"""Refusals 1 to 4, read from documents 01 and 02 a second time: the first record that is wrong, and which of
+its fields are. The proved program decides; this says in words what it decided."""
 import struct
 
 from sheet_format import BYTES, LAYOUT, LINK_KINDS, NODE_KINDS, STATUSES, UNITS
@@ -11,7 +11,7 @@ LEAST_DIAMETER = 2.0 ** -10
 
 def allowed_after(mark):
     """The marks that a record may be followed by; None asks for the first."""
-    return {None: [b"OP"], b"LK": [b"LK"]}.get(mark, [b"ND", b"LK"])
+    return {None: [b"OP"], b"OP": [b"PD", b"ND", b"LK"], b"LK": [b"LK"]}.get(mark, [b"ND", b"LK"])
 
 
 def records(data):
@@ -39,6 +39,8 @@ def bounds(mark, fields, nodes):
             ("trials", 1 <= f["trials"] <= MOST_TRIALS, "1 to %d" % MOST_TRIALS),
             ("unit", f["unit"] < len(UNITS), "a flow unit's code, 0 to %d" % (len(UNITS) - 1)),
         ]
+    if mark == b"PD":
+        return [("required", f["required"] >= f["minimum"], "the minimum pressure or more")]
     if mark == b"ND":
         return [
             ("kind", f["kind"] < len(NODE_KINDS), "a node kind's code, 0 to %d" % (len(NODE_KINDS) - 1)),

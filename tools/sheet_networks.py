@@ -192,9 +192,8 @@ def wild_link(dice, s, start, end):
            check_valve=dice.below(2))
 
 
-def wild(seed, i):
-    """Legal, and else anything."""
-    dice = Dice(seed, 2, i)
+def anything(dice):
+    """A legal sheet without a PD, and else anything."""
     s = Sheet(accuracy=abs(extreme(dice)) or 0.001, damping_limit=abs(extreme(dice)),
               max_flow_change=abs(extreme(dice)) if dice.chance(0.3) else 0.0,
               trials=dice.choice((1, 2, 5, 10, 30)), unit=dice.choice(UNITS))
@@ -206,6 +205,11 @@ def wild(seed, i):
         start = dice.below(len(s.nodes))
         end = (start + 1 + dice.below(len(s.nodes) - 1)) % len(s.nodes)
         wild_link(dice, s, start, end)
+    return s
+
+
+def wild(seed, i):
+    s = anything(Dice(seed, 2, i))
     return Case("wild-%d-%d" % (seed, i), "legal, %d nodes, %d links, extreme numbers" % (
         len(s.nodes), len(s.links)), s)
 
@@ -270,15 +274,24 @@ DAMAGES = (cut, flip_bit, flip_bit, set_byte, insert_byte, drop_byte, double_rec
            drop_record, swap_records, odd_float, odd_float)
 
 
-def damaged(seed, i):
-    """A copy of a good sheet with one to three damages."""
-    dice = Dice(seed, 3, i)
+def small(dice):
+    """A network to be damaged."""
     plan = Plan(2 + dice.below(3), loops=dice.below(2), tank=dice.chance(0.3),
                 valves=[(dice.choice(VALVES), dice.choice(STATUSES))])
-    data = build(dice, plan, options(dice)).encode()
+    return build(dice, plan, options(dice))
+
+
+def damage(dice, name, data):
+    """A copy with one to three damages, which are the case's reason."""
     done = []
     while not done or (data and len(done) < 3 and dice.chance(0.3)):
-        damage = dice.choice(DAMAGES)
-        data = damage(dice, data)
-        done.append(damage.__name__.replace("_", " "))
-    return Case("damaged-%d-%d" % (seed, i), ", ".join(done), data)
+        one = dice.choice(DAMAGES)
+        data = one(dice, data)
+        done.append(one.__name__.replace("_", " "))
+    return Case(name, ", ".join(done), data)
+
+
+def damaged(seed, i):
+    """A damaged copy of a good sheet."""
+    dice = Dice(seed, 3, i)
+    return damage(dice, "damaged-%d-%d" % (seed, i), small(dice).encode())

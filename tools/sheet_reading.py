@@ -1,5 +1,5 @@
 #!/usr/bin/env python3
-"""The sheets that crate sheet_list replays, and what it answers by the second reading of document 01.
+"""The sheets that crate sheet_list replays, and what it answers by the second reading of documents 01 and 02.
 
   sheet_reading.py     writes stdin and stdout of crate sheet_list
 """
@@ -9,9 +9,12 @@ from sheet_bounds import reading
 from sheet_format import Sheet, pack_many
 
 
-def cuts():
+NETWORKS = ("real", "wild", "pd-real", "pd-wild")
+
+
+def cuts(pressures=None):
     """Every beginning of a sheet with one record of each kind and one more node."""
-    s = Sheet()
+    s = Sheet(pressures=pressures)
     s.reservoir(head=100.0)
     s.junction(elevation=5.0)
     s.pipe(0, 1)
@@ -19,9 +22,14 @@ def cuts():
     return [data[:n] for n in range(len(data) + 1)]
 
 
+def but_networks(cases):
+    return [case.data for case in cases if not case.name.startswith(NETWORKS)]
+
+
 def replayed():
-    """The stored list but for its networks, and the cuts."""
-    return [case.data for case in sheets.stored() if not case.name.startswith(("real", "wild"))] + cuts()
+    """The stored list but for its networks, and the cuts; what came with PD behind what was there."""
+    return (but_networks(sheets.stored_first()) + cuts()
+            + but_networks(sheets.stored_pd()) + cuts((5.0, 20.0)))
 
 
 def files():

@@ -66,7 +66,9 @@ def marks():
     yield Case("1-letter-after", "half a mark after the last record", good + b"L", (1, 168))
     yield Case("1-two-after", "a mark and no record", good + b"LK", (1, 168))
     for mark in (b"XX", b"LG", b"CV", b"EM", b"PD", b"\0\0"):
-        yield Case("1-mark-" + mark.hex(), "an unknown mark after OP", op + mark + nd[2:], (1, 29))
+        reason, at = ("PD's 18 bytes are read, what follows is no record", 47) if mark == b"PD" else (
+            "an unknown mark after OP", 29)
+        yield Case("1-mark-" + mark.hex(), reason, op + mark + nd[2:], (1, at))
 
 
 def cuts():
@@ -119,7 +121,7 @@ def nodes_of(count, links=0):
 
 
 def full():
-    """64 nodes and 128 links: 9,181 bytes, the longest good sheet."""
+    """64 nodes and 128 links: 9,181 bytes, the longest good sheet without a PD."""
     s = nodes_of(64, 63)
     for k in range(65):
         s.pipe(k % 62, k % 62 + 2, resistance=2.0, flow=0.125)
@@ -129,7 +131,7 @@ def full():
 def counts():
     yield Case("2-64-nodes", "as many nodes as there may be", nodes_of(64, 63), (0, 0))
     yield Case("2-65-nodes", "one more", nodes_of(65), (2, 0))
-    yield Case("2-full", "64 nodes, 128 links: the longest good sheet, 9,181 bytes", full(), (0, 0))
+    yield Case("2-full", "64 nodes, 128 links: the longest good sheet without a PD, 9,181 bytes", full(), (0, 0))
     s = pair()
     s.links *= 129
     yield Case("2-129-links", "one link more than there may be", s, (2, 1))
@@ -159,8 +161,10 @@ def long_sheets():
     whole = full().encode()
     good = pair().encode()
     op, nd, lk = good[:29], good[29:74], good[119:]
-    yield Case("B25-one-byte-more", "a byte after the longest good sheet", whole + b"L", (1, 9181))
-    yield Case("B25-one-link-more", "a link after the longest good sheet", whole + lk, (2, 1))
+    yield Case("B25-one-byte-more", "a byte after the longest good sheet without a PD",
+               whole + b"L", (1, 9181))
+    yield Case("B25-one-link-more", "a link after the longest good sheet without a PD", whole + lk,
+               (2, 1))
     yield Case("B25-cut-far", "a cut ND at 20,009", op + nd * 444 + nd[:9], (1, 20009))
     yield Case("B25-last-byte", "65,536 bytes, unreadable at the last: 65,535",
                op + nd * 1435 + lk * 19 + b"L", (1, 65535))
@@ -284,6 +288,114 @@ def ends():
     s.valve("PRV", 1, tank)
     yield Case("B07-prv-to-disabled-tank", "disabled or not, a tank gives 4", s, (4, 213))
 
+
+# --- the PD record (document 02, [11]) ------------------------------------------------
+
+def pressed(minimum=5.0, required=20.0, **fields):
+    """The pair under two pressures."""
+    return pair(pressures=(minimum, required), **fields)
+
+
+def pd_marks():
+    good = pressed().encode()
+    op, pd, nd, lk = good[:29], good[29:47], good[47:92], good[137:]
+    for name, reason, data, at in (
+            ("alone", "PD and no OP", pd, 0),
+            ("first", "PD before OP", pd + op + nd, 0),
+            ("twice", "a second PD", op + pd + pd + nd, 47),
+            ("then-options", "OP after PD", op + pd + op + nd, 47),
+            ("between-nodes", "PD between two nodes", op + nd + pd + nd, 74),
+            ("between-nodes-too", "PD in its place and between two nodes", op + pd + nd + pd + nd, 92),
+            ("after-nodes", "PD between nodes and links", op + nd + nd + pd + lk, 119),
+            ("between-links", "PD between two links", op + nd + nd + lk + pd + lk, 168),
+            ("behind-links", "PD after the last link", op + nd + nd + lk + pd, 168),
+            ("behind-links-too", "PD in its place and after the last link", good + pd, 186),
+            ("small-letters", "marks are capitals", op + b"pd" + pd[2:] + nd, 29),
+            ("swapped-letters", "DP is no mark", op + b"DP" + pd[2:] + nd, 29),
+            ("one-byte-less", "PD takes the node's first byte; the rest is no record",
+             op + pd[:17] + nd, 47),
+            ("one-byte-more", "a byte between PD and the node", op + pd + b"\0" + nd, 47)):
+        yield Case("1-pd-" + name, reason, data, (1, at))
+
+
+def pd_cuts():
+    """PD cut at each byte; and the records behind a PD, which stand 18 bytes further on."""
+    good = pressed().encode()
+    for left in range(1, 18):
+        yield Case("1-cut-pd-%d" % left, "PD of 18 bytes, %d left" % left, good[:29 + left], (1, 29))
+    for name, start, left in (("nd", 47, 1), ("nd", 92, 44), ("lk", 137, 2), ("lk", 137, 48)):
+        yield Case("1-pd-cut-%s-%d-%d" % (name, start, left), "a record behind a PD, %d bytes left" % left,
+                   good[:start + left], (1, start))
+
+
+def pd_order():
+    nan = math.nan
+    yield Case("1-before-3-pd", "a NaN pressure and a cut record", pressed(nan).encode() + b"L", (1, 186))
+    s = pressed(nan)
+    s.nodes *= 40
+    yield Case("2-before-3-pd", "80 nodes and a NaN pressure", s, (2, 0))
+    yield Case("3-options-before-pd", "OP and PD wrong: OP's offset", pressed(nan, trials=0), (3, 0))
+    s = changed(pressed(nan), "nodes", 0, kind=9)
+    yield Case("3-pd-before-node", "PD and ND wrong: PD's offset", s, (3, 29))
+    s = changed(pressed(20.0, 5.0), "links", 0, end=0)
+    yield Case("3-pd-before-4", "required below minimum and a link to itself", s, (3, 29))
+    yield Case("3-node-behind-pd", "a node's offset behind a PD", changed(pressed(), "nodes", 1, kind=9), (3, 92))
+    yield Case("3-link-behind-pd", "a link's offset behind a PD", changed(pressed(), "links", 0, kind=9), (3, 137))
+    yield Case("4-behind-pd", "a link to itself behind a PD", changed(pressed(), "links", 0, end=0), (4, 137))
+
+
+def pd_counts():
+    good = pressed().encode()
+    head, nd, lk = good[:47], good[47:92], good[137:]
+    yield Case("2-pd-alone", "OP and PD can be read: the node count is wrong", head, (2, 0))
+    yield Case("2-pd-link", "LK straight after PD can be read too", head + lk, (2, 0))
+    s = full()
+    s.pd = pressed().pd
+    whole = s.encode()
+    yield Case("2-pd-full", "64 nodes, 128 links, PD: the longest good sheet, 9,199 bytes", s, (0, 0))
+    yield Case("1-pd-full-byte-more", "a byte after the longest good sheet", whole + b"L", (1, 9199))
+    yield Case("1-pd-full-pd-more", "a PD after the longest good sheet", whole + good[29:47], (1, 9199))
+    yield Case("2-pd-full-link-more", "a link after the longest good sheet", whole + lk, (2, 1))
+    yield Case("2-pd-full-node-more", "65 nodes under PD", head + nd * 65, (2, 0))
+    yield Case("1-pd-last-byte", "65,536 bytes with a PD, unreadable at the last: 65,535",
+               head + nd * 1415 + lk * 37 + b"L", (1, 65535))
+
+
+def pd_floats():
+    for field, other in (("minimum", "required"), ("required", "minimum")):
+        for word, value in (("nan", math.nan), ("inf", math.inf), ("minus-inf", -math.inf),
+                            ("above", next_up(LIMIT)), ("minus-above", -next_up(LIMIT))):
+            # the other one far off, so that only the bound is at fault
+            far = math.copysign(LIMIT, -1.0 if other == "minimum" else 1.0)
+            yield Case("3-pd-%s-%s" % (field, word), "%s pressure is %r" % (field, value),
+                       pressed(**{field: value, other: far}), (3, 29))
+    yield Case("3-pd-both-nan", "two NaN pressures", pressed(math.nan, math.nan), (3, 29))
+
+
+def pd_pairs():
+    """Required below minimum is 3; equal is legal."""
+    for word, minimum, required in (
+            ("below", 20.0, 5.0), ("ulp-below", 20.0, next_down(20.0)),
+            ("ulp-below-zero", -20.0, -next_up(20.0)), ("tiny-below", 0.0, -TINY),
+            ("tiny-then-zero", TINY, 0.0), ("limit-then-less", LIMIT, next_down(LIMIT)),
+            ("limits-turned", LIMIT, -LIMIT)):
+        yield Case("3-pd-" + word, "required %r below minimum %r" % (required, minimum),
+                   pressed(minimum, required), (3, 29))
+    for word, minimum, required in (
+            ("equal", 20.0, 20.0), ("ulp-above", 20.0, next_up(20.0)), ("zeros", 0.0, 0.0),
+            ("minus-zero-first", -0.0, 0.0), ("minus-zero-second", 0.0, -0.0),
+            ("minus-zeros", -0.0, -0.0), ("minus-zero-minimum", -0.0, 20.0),
+            ("tiny", 0.0, TINY), ("minus-tiny", -TINY, TINY), ("tinies", TINY, TINY),
+            ("subnormal", 2.0 ** -1050, 2.0 ** -1030), ("below-zero", -40.0, -10.0),
+            ("limit", LIMIT, LIMIT), ("minus-limit", -LIMIT, -LIMIT), ("required-limit", 5.0, LIMIT),
+            ("minimum-minus-limit", -LIMIT, 20.0)):
+        yield Case("pd-pair-" + word, "minimum %r, required %r: legal" % (minimum, required),
+                   pressed(minimum, required), (0, 0))
+    yield Case("pd-pair-limits", "legal, and so far apart that the drawn flow leaps from end to end",
+               pressed(-LIMIT, LIMIT), (8, 40))
+
+
+PD_GROUPS = (pd_marks, pd_cuts, pd_order, pd_counts, pd_floats, pd_pairs)
 
 GROUPS = (marks, cuts, order_of_refusals, counts, long_sheets, floats, zeros, codes,
           diameters, unused, ends)

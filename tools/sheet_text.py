@@ -21,6 +21,7 @@ SETTINGS = {"PRV": PRESSURE, "PSV": PRESSURE, "PBV": PRESSURE, "FCV": FLOW, "TCV
 # figures, flags, and the figures that must be there, of each kind of record
 FIGURES = {
     "options": {"accuracy": BARE, "trials": BARE, "damping-limit": BARE, "max-flow-change": FLOW},
+    "pressures": {"minimum": PRESSURE, "required": PRESSURE},
     "junction": {"elevation": HEIGHT, "demand": FLOW, "head": HEIGHT},
     "reservoir": {"elevation": HEIGHT, "demand": FLOW, "head": HEIGHT},
     "tank": {"elevation": HEIGHT, "head": HEIGHT, "max-level": HEIGHT, "min-level": HEIGHT},
@@ -31,7 +32,7 @@ FIGURES.update({kind: {"setting": unit, "diameter": WIDTH, "minor-loss": BARE, "
                 for kind, unit in SETTINGS.items()})
 FLAGS = {"junction": ["disabled"], "reservoir": ["disabled"], "tank": ["disabled", "overflow"],
          "pipe": ["check-valve"]}
-NEEDED = {"junction": ["elevation"], "reservoir": ["head"],
+NEEDED = {"pressures": ["minimum", "required"], "junction": ["elevation"], "reservoir": ["head"],
           "tank": ["elevation", "head", "max-level", "min-level"]}
 NEEDED.update({kind: ["setting", "diameter"] for kind in SETTINGS})
 KINDS = {kind.lower(): kind for kind in FIGURES}
@@ -153,14 +154,18 @@ class Scheme:
 
     def __init__(self):
         self.sheet = Sheet()
-        self.options_line = None
-        self.numbers, self.lines = {}, {b"OP": [1], b"ND": [], b"LK": []}
+        # where the lines that may be there once were
+        self.once = {}
+        self.numbers, self.lines = {}, {b"OP": [1], b"PD": [], b"ND": [], b"LK": []}
         self.waiting, self.names = [], []
 
+    def only(self, kind, mark, line):
+        if kind in self.once:
+            raise Mistake("%s were given in line %d already" % (kind, self.once[kind]))
+        self.once[kind], self.lines[mark] = line, [line]
+
     def options(self, line, words):
-        if self.options_line is not None:
-            raise Mistake("options were given in line %d already" % self.options_line)
-        self.options_line, self.lines[b"OP"] = line, [line]
+        self.only("options", b"OP", line)
         unit = flow_unit(words)
         found = fields_of("options", words, **{"max-flow-change": counted_in(unit)})
         trials = found.get("trials", 40.0)
@@ -169,6 +174,10 @@ class Scheme:
         found.update({"trials": int(trials), "unit": UNITS.index(unit)})
         found.pop("flow-unit", None)
         self.sheet.op.update(underscored(found))
+
+    def pressures(self, line, words):
+        self.only("pressures", b"PD", line)
+        self.sheet.pd = fields_of("pressures", words)
 
     def node(self, kind, line, words):
         name = take(words, "the node's name")
@@ -192,6 +201,8 @@ class Scheme:
         rest = words[1:]
         if kind == "options":
             self.options(line, rest)
+        elif kind == "pressures":
+            self.pressures(line, rest)
         elif kind in NODE_KINDS:
             self.node(kind, line, rest)
         else:
@@ -215,7 +226,7 @@ class Scheme:
                                   ("links", self.lines[b"LK"], sheet_bounds.MOST_LINKS)):
             if len(lines) > most:
                 yield lines[most], "a sheet holds at most %d %s" % (most, word)
-        for mark, found in ((b"OP", [self.sheet.op]), (b"ND", nodes), (b"LK", links)):
+        for mark, found in ((b"OP", [self.sheet.op]), (b"PD", [self.sheet.pd]), (b"ND", nodes), (b"LK", links)):
             for line, fields in zip(self.lines[mark], found):
                 for name, must in sheet_bounds.faults(mark, fields, len(nodes)):
                     yield line, "%s is %r but must be %s" % (name.replace("_", "-"), fields[name], must)

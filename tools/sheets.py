@@ -2,7 +2,9 @@
 """Network sheets: built, generated, stored and shown.
 
   sheets.py generate KIND SEED COUNT   sheets in the many form; KIND is boundary,
-                                       real, wild or damaged
+                                       real, wild, damaged or, with a PD,
+                                       pd-seeded, pd-real, pd-wild, pd-flood,
+                                       pd-damaged
   sheets.py list                       the sheets of the stored list, many form
   sheets.py names                      its cases: number, name and reason
   sheets.py one NAME                   the sheet of one of its cases
@@ -16,14 +18,21 @@ import sys
 
 import sheet_boundary
 import sheet_networks
+import sheet_pressure
 import sheet_refusals
 import sheet_rules
 from sheet_format import Case, Dice, Sheet, decode, pack_many, shown, unpack_many
 
 __all__ = ["Case", "Dice", "Sheet", "decode", "pack_many", "shown", "unpack_many"]
 
-# seed and count of each kind in the stored list, after the named boundary cases
+# seed and count of each kind in the stored list, after the named boundary cases;
+# and the same with a PD, after its named cases
 STORED = (("seeded", 11, 60), ("real", 12, 144), ("wild", 13, 100), ("damaged", 14, 100))
+STORED_PD = (("pd-seeded", 21, 40), ("pd-real", 22, 96), ("pd-wild", 23, 60), ("pd-damaged", 24, 40))
+MAKERS = {"seeded": sheet_boundary.seeded, "real": sheet_networks.real, "wild": sheet_networks.wild,
+          "damaged": sheet_networks.damaged, "pd-seeded": sheet_pressure.seeded, "pd-real": sheet_pressure.real,
+          "pd-wild": sheet_pressure.wild, "pd-flood": sheet_pressure.flood,
+          "pd-damaged": sheet_pressure.damaged}
 
 
 def boundary(seed, count):
@@ -35,17 +44,26 @@ def boundary(seed, count):
 def generate(kind, seed, count):
     if kind == "boundary":
         return boundary(seed, count)
-    make = {"seeded": sheet_boundary.seeded, "real": sheet_networks.real,
-            "wild": sheet_networks.wild, "damaged": sheet_networks.damaged}[kind]
-    return [make(seed, i) for i in range(count)]
+    return [MAKERS[kind](seed, i) for i in range(count)]
+
+
+def several(asked):
+    return [case for kind, seed, count in asked for case in generate(kind, seed, count)]
+
+
+def stored_first():
+    """The cases of the stored list that came before PD."""
+    return sheet_boundary.named() + several(STORED)
+
+
+def stored_pd():
+    """The cases that came with PD."""
+    return sheet_pressure.named() + several(STORED_PD)
 
 
 def stored():
     """The cases of the stored list, in order."""
-    cases = sheet_boundary.named()
-    for kind, seed, count in STORED:
-        cases += generate(kind, seed, count)
-    return cases
+    return stored_first() + stored_pd()
 
 
 def looped():
@@ -108,7 +126,7 @@ def one(name):
 
 def asks_to_generate(args):
     return (len(args) == 4 and args[0] == "generate"
-            and args[1] in ("boundary", "real", "wild", "damaged")
+            and args[1] in ("boundary", *MAKERS)
             and args[2].isdigit() and args[3].isdigit())
 
 
@@ -134,4 +152,7 @@ def main(args):
 
 
 if __name__ == "__main__":
-    main(sys.argv[1:])
+    try:
+        main(sys.argv[1:])
+    except OSError as error:
+        sys.exit("sheets.py: %s" % error)

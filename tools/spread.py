@@ -3,19 +3,23 @@
 
   spread.py [COUNT [FIRST SECOND]]    COUNT networks a set (700), builds recipe plain
 
-Builds the two, solves each network by both, and prints two tables; then how
-often each of them repairs the June shape. "rel" is
+Builds the two, solves each network by both, and prints two tables; a third for
+the networks with a PD; then how often each of them repairs the June shape. "rel" is
 |a - b| over the greater of the two, node by node, the worst node of a network;
 "ft" the same in feet; "flow" the worst |a - b| over the network's greatest flow.
 Typical is the median over the networks. A network with a head beyond 2,000 ft
 in either answer (closed links that must carry a demand) is counted apart.
+In the third table a drawn flow is off its curve when it is more than a hundredth
+of the demand from what the pressure beside it allows.
 """
+import math
 import sys
 
 import oracle
 import sheet_networks
+import sheet_pressure
 import sheet_rules
-from sheet_format import Dice, STATUSES, Sheet
+from sheet_format import Dice, STATUSES, Sheet, decode
 from sheet_networks import Plan, VALVES
 
 UNTAME_HEAD = 2000.0
@@ -44,6 +48,21 @@ def real(june):
     return lambda _, i: sheet_networks.real(SEED, i, june)
 
 
+def pressed(minimum, required, accuracy):
+    def make(dice, i):
+        return sheet_pressure.under(pipes(0.0, accuracy)(dice, i), minimum, required)
+    return make
+
+
+PD_SETS = (
+    ("PD, more pressure than required, 1e-3", pressed(0.0, 40.0, 1e-3)),
+    ("PD, less, 1e-3", pressed(20.0, 300.0, 1e-3)),
+    ("the same, 1e-6", pressed(20.0, 300.0, 1e-6)),
+    ("PD, about the required, 1e-3", pressed(100.0, 160.0, 1e-3)),
+    ("the same, 1e-6", pressed(100.0, 160.0, 1e-6)),
+    ("`pd-real` of tools/sheets.py", lambda _, i: sheet_pressure.real(SEED, i)),
+)
+
 SETS = (
     ("pipes, every junction draws, 1e-3", pipes(0.0, 1e-3)),
     ("the same, 1e-6", pipes(0.0, 1e-6)),
@@ -53,7 +72,7 @@ SETS = (
     ("the same, 1e-6", valves(1e-6)),
     ("`real` of tools/sheets.py, no June pair", real(0.0)),
     ("`real`, each with a June pair", real(1.0)),
-)
+) + PD_SETS
 
 SAME, TRIALS, STATUS, REPAIRS, UNTAME, UNTAME_OTHER, ANSWERS = range(7)
 
@@ -95,14 +114,18 @@ def three(rows, column):
     return " | ".join("%.1e" % quantile(values, part) for part in (0.5, 0.99, 1.0))
 
 
-def compare(make, count, first, second):
+def solved(make, count, first, second):
+    """(sheet, the one's listing, the other's) of each network of a set."""
     sheets = [make(Dice(SEED, i), i) for i in range(count)]
     sheets = [getattr(sheet, "data", None) or sheet.encode() for sheet in sheets]
-    pairs = zip(oracle.listings(first, sheets), oracle.listings(second, sheets))
+    for data, one, other in zip(sheets, oracle.listings(first, sheets), oracle.listings(second, sheets)):
+        yield data, oracle.Listing(one), oracle.Listing(other)
+
+
+def compare(make, count, first, second):
     groups = {kind: [] for kind in range(ANSWERS)}
     answers = {}
-    for one, other in pairs:
-        a, b = oracle.Listing(one), oracle.Listing(other)
+    for _, a, b in solved(make, count, first, second):
         answers[a.number, b.number] = answers.get((a.number, b.number), 0) + 1
         kind = group(a, b)
         if kind != ANSWERS:
@@ -136,7 +159,42 @@ def report(count, first, second):
         others = ", ".join("%d against %d: %d" % (a, b, n) for (a, b), n in sorted(answers.items())
                            if a != b) or "none"
         print("| %s | %s | %s | %s |" % (name, " | ".join(cells), untame, others))
-    print("\nConverging in both: %d." % sum(answers.get((0, 0), 0) for _, _, answers in results))
+    both = [answers.get((0, 0), 0) for _, _, answers in results]
+    with_pd = sum(both[-len(PD_SETS):])
+    print("\nConverging in both: %d, and with a PD %d." % (sum(both) - with_pd, with_pd))
+
+
+def allowed(asked, pressure, minimum, required):
+    """What a demand above 0 draws at a pressure, by its curve."""
+    part = (pressure - minimum) / max(required - minimum, 0.1)
+    return asked * math.sqrt(min(max(part, 0.0), 1.0))
+
+
+def drawn(data, listing):
+    """(asked, allowed, drawn) of each demand that bends."""
+    records = decode(data)
+    pressures = records[1][2]
+    nodes = [fields for _, mark, fields in records if mark == b"ND"]
+    for node, head, flow in zip(nodes, listing.heads, listing.demands):
+        if node["kind"] == 0 and not node["disabled"] and node["demand"] > 0:
+            yield node["demand"], allowed(node["demand"], head - node["elevation"], **pressures), flow
+
+
+def off_curve(data, listing):
+    return any(abs(flow - fits) > 0.01 * max(asked, 0.001) for asked, fits, flow in drawn(data, listing))
+
+
+def pressure_report(count, first, second):
+    print("\n| set | both 0 | short of some demand | drawn, gap over asked: typical | 99 %% | largest "
+          "| off the curve: `%s`, `%s` |" % (first, second))
+    print("|---" * 7 + "|")
+    for name, make in PD_SETS:
+        pairs = [(data, a, b) for data, a, b in solved(make, count, first, second) if a.number == b.number == 0]
+        short = sum(any(flow < 0.99 * asked for asked, _, flow in drawn(data, a)) for data, a, _ in pairs)
+        worst = [(max([abs(x[2] - y[2]) / max(x[0], 0.001) for x, y in zip(drawn(data, a), drawn(data, b))]
+                      + [0.0]),) for data, a, b in pairs]
+        off = [sum(off_curve(row[0], row[k]) for row in pairs) for k in (1, 2)]
+        print("| %s | %d | %d | %s | %d, %d |" % (name, len(pairs), short, three(worst, 0), *off))
 
 
 def june_report(first, second):
@@ -149,7 +207,7 @@ def june_report(first, second):
 
 
 def main(args):
-    if len(args) not in (0, 1, 3):
+    if len(args) not in (0, 1, 3) or not all(word.isdigit() for word in args[:1]):
         sys.exit(__doc__)
     count = int(args[0]) if args else 700
     first, second = args[1:] or ("recipe", "plain")
@@ -157,6 +215,7 @@ def main(args):
     if status != 0:
         sys.exit(said.strip())
     report(count, first, second)
+    pressure_report(count, first, second)
     june_report(first, second)
 
 

@@ -38,8 +38,8 @@ const SUBSTITUTIONS: &[Substitution] = &[
         when: When::Always,
         file: "solver/hydraulicsolver.rs",
         count: 1,
-        from: "            self.update_tank_links(network, &mut state);\n",
-        to: "            self.update_tank_links(network, &mut state); crate::hook::stepped(&state)?;\n",
+        from: "            let rel_change = stats.relative_change(&network.options);\n",
+        to: "            crate::hook::stepped(network, &state)?; let rel_change = stats.relative_change(&network.options);\n",
         why: "S2 the place of the test for refusal 7, which only `recipe` makes",
     },
     Substitution {

@@ -11,6 +11,11 @@ TOP = os.path.dirname(os.path.dirname(os.path.dirname(os.path.abspath(__file__))
 NOT_FOR_SALE = "; these pressures must not be sold on"
 # first line and exit status of each example
 EXPECTED = {
+    "dry-week/fixed-demands": ("solved in 4 trials", 0),
+    "dry-week/giving-way": ("solved in 5 trials; 4 hydrants get less than they ask, worst node 4, which lacks 0.1299 "
+                            "of 0.2472 cfs (3.68 of 7.00 LPS)", 0),
+    "dry-week/no-pressure": ("solved in 1 trial, but what 1 hydrant draws does not fit the pressure there, worst node "
+                             "1, which draws 1.0000 cfs where the pressure allows 0.0000 cfs" + NOT_FOR_SALE, 3),
     "document01": ("solved in 2 trials, but with a repair: node 1 was tied to a reservoir that is not there; "
                    "nothing determines the head of node 1" + NOT_FOR_SALE, 3),
     "june": ("solved in 13 trials, but with a repair: the PRV at link 2 (2 -> 3) was freed" + NOT_FOR_SALE, 3),
@@ -35,8 +40,9 @@ def desk(*args):
 
 class Desk(unittest.TestCase):
     def test_every_example_is_expected(self):
-        found = {os.path.splitext(name)[0] for name in os.listdir(os.path.join(TOP, "examples"))
-                 if name.endswith(".sheet")}
+        top = os.path.join(TOP, "examples")
+        found = {os.path.relpath(os.path.join(folder, name), top)[:-len(".sheet")]
+                 for folder, _, names in os.walk(top) for name in names if name.endswith(".sheet")}
         self.assertEqual(found, set(EXPECTED))
 
     def test_first_lines_and_exit_statuses(self):
@@ -47,6 +53,13 @@ class Desk(unittest.TestCase):
     def test_the_readme_shows_the_june_page(self):
         with open(os.path.join(TOP, "README.md"), encoding="utf-8") as readme:
             self.assertIn(desk(example("june"))[1], readme.read())
+
+    def test_the_ridge_in_a_dry_week(self):
+        """What docs/DESK.md and examples/README.md say of node 4, in metres and litres a second."""
+        _, out = desk("--json", example("dry-week/fixed-demands"), example("dry-week/giving-way"))
+        ridge = [found["nodes"][4] for found in json.loads(out)]
+        self.assertEqual([("%.2f" % node["pressure"], "%.2f" % node["demand"]) for node in ridge],
+                         [("4.17", "7.00"), ("10.63", "3.32")])
 
     def test_all_at_once_as_json(self):
         names = sorted(EXPECTED)

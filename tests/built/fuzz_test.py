@@ -1,4 +1,5 @@
-"""Damaged, wild and random sheets through replay against the oracle, for a bounded time. A longer run: tools/fuzz.py."""
+"""Damaged, wild and random sheets, with a PD and without, through replay against the oracle, for a bounded time. A
+longer run: tools/fuzz.py."""
 import os
 import sys
 import unittest
@@ -18,7 +19,7 @@ class Fuzz(unittest.TestCase):
         status, said = oracle.build("recipe")
         self.assertEqual(status, 0, said)
         total = fuzz.run(SECONDS, SEED)
-        self.assertGreater(total, fuzz.BATCH)
+        self.assertGreaterEqual(total, fuzz.BATCH * len(fuzz.KINDS))
         print("fuzz: %d sheets" % total)
 
 

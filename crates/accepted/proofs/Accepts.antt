@@ -17,9 +17,9 @@ use Rattle.patterns.specs.Bytes.{fromBytes}
 use Rattle.layout.specs.Places.{Laid, nodePlace, linkPlace}
 use Rattle.links.specs.Links.{EndsIn}
 use Rattle.nodes.specs.Nodes.{inService, serving}
-use Rattle.sheet.specs.Scan.{readable, hasOptions, layoutOf, endOf}
-use Rattle.records.specs.Records.{byteAt, pairAt}
-use Rattle.fields.specs.Fields.{null, baseBounds, within, allWithin, optionsGood, nodeGood, linkCodes, linkNumbers, linkGood}
+use Rattle.sheet.specs.Scan.{readable, hasOptions, hasPressures, layoutOf, endOf}
+use Rattle.records.specs.Records.{byteAt, pairAt, pressuresOf}
+use Rattle.fields.specs.Fields.{null, baseBounds, within, allWithin, optionsGood, pressuresGood, nodeGood, linkCodes, linkNumbers, linkGood}
 use Rattle.ends.specs.Ends.{endsGood}
 use Rattle.sheet.specs.Read.{firstBad, badNode, badLink, badField, badEnds, unless, withUnknowns, checked, afterScan, readWith}
 use Rattle.accepted.specs.Accepted.{Accepted, none, causeOf, numberIn}
@@ -31,7 +31,7 @@ use Rattle.layout.specs.declared.places.Layout.{Layout}
 use Rattle.sheet.specs.declared.reading.Reading.the-variants.{Good, Refused}
 use Rattle.refusals.specs.declared.refusals.Refusal.the-variants.{Unreadable, NodeCount, LinkCount, Field, Ends}
 use Rattle.sheet.proofs.Laws.{and-left, and-right}
-use Rattle.sheet.proofs.Readings.{no-field, field-link, checked-good, right-counts, whole, each-node, each-link, each-ends, ends-in, laid-of, options-fit}
+use Rattle.sheet.proofs.Readings.{fine-some, fine-where, no-field, field-link, checked-good, right-counts, whole, each-node, each-link, each-ends, ends-in, laid-of, options-fit}
 
 -- ---- each number has its one cause
 
@@ -116,7 +116,7 @@ module _ (b : Bounds) (s : List ℕ) where
       let l : Layout = layoutOf s in
       whole b s (a .first) (a .whole)
       ∙ right-counts b l s (a .some) (a .few-nodes) (a .few-links)
-      ∙ checked-good b l s (field-link b l s (a .options) (no-bad-node b s l (a .each-node)) ∙ no-bad-link b s l (a .each-link)) (no-bad-ends b s l (λ j h. sym (ends-same s l (linkPlace l j)) ∙ a .each-ends j h))
+      ∙ checked-good b l s (field-link b l s (a .options) (fine-where b l s (a .pressures)) (no-bad-node b s l (a .each-node)) ∙ no-bad-link b s l (a .each-link)) (no-bad-ends b s l (λ j h. sym (ends-same s l (linkPlace l j)) ∙ a .each-ends j h))
 
   pub accepted : (l : Layout) → Accepted b s l → readWith b s ≡ Good l
   accepted l a = subst (λ (k : Layout). Accepted b s k → readWith b s ≡ Good k) (sym (a .laid)) accepted-here a
@@ -166,8 +166,9 @@ module _ (b : Bounds) (s : List ℕ) where
         few-nodes = counts .1;
         few-links = counts .2;
         options = f .0;
-        each-node = each-node b l s (f .1);
-        each-link = each-link b l s (f .2);
+        pressures = λ h. fine-some b l s h ∙ f .1;
+        each-node = each-node b l s (f .2);
+        each-link = each-link b l s (f .3);
         each-ends = λ j h. ends-same s l (linkPlace l j) ∙ each-ends b l s ends j h;
       }
 
@@ -209,7 +210,7 @@ base-finite = tt
 
 -- ---- what an accepted sheet's records are
 
--- the floats of a record that is good are within: of OP three from 2 on, of ND five from 4 on, of LK five from 9 on
+-- the floats of a record that is good are within: of OP three from 2 on, of PD two from 31 on, of ND five from 4 on, of LK five from 9 on
 pub options-floats : (b : Bounds) (s : List ℕ) → optionsGood b s ≡ true → allWithin b 3 s 2 ≡ true
 unfolding optionsGood
 options-floats b s h =
@@ -220,6 +221,16 @@ options-floats b s h =
     let f = leb 1 (pairAt s 26) in
     let g = leb (pairAt s 26) (b .trials) in
     and-left a c (and-left (a && c) d (and-left (a && c && d) e (and-left (a && c && d && e) f (and-left (a && c && d && e && f) g (and-left (a && c && d && e && f && g) (leb (byteAt s 28) (b .unit)) h)))))
+
+-- and a PD's required pressure is not below its minimum
+module _ (b : Bounds) (s : List ℕ) (h : pressuresGood b s ≡ true) where
+  pub pressures-floats : allWithin b 2 s 31 ≡ true
+  unfolding pressuresGood
+  pressures-floats = and-left (allWithin b 2 s 31) (le (fromBytes s 31) (fromBytes s 39)) h
+
+  pub pressures-order : le (pressuresOf s .minimum) (pressuresOf s .required) ≡ true
+  unfolding pressuresGood pressuresOf
+  pressures-order = and-right (allWithin b 2 s 31) (le (fromBytes s 31) (fromBytes s 39)) h
 
 pub node-floats : (b : Bounds) (s : List ℕ) (at : ℕ) → nodeGood b s at ≡ true → allWithin b 5 s (at + 4) ≡ true
 unfolding nodeGood
@@ -241,6 +252,10 @@ laid-same : (s : List ℕ) → Laid (layoutOf s) s → Laid (withUnknowns s (lay
 unfolding withUnknowns linkPlace
 laid-same s h = record { options = h .options; nodes = h .nodes; links = h .links; stride = h .stride }
 
+pressures-same : (s : List ℕ) → withUnknowns s (layoutOf s) .pressures ≡ hasPressures s
+unfolding withUnknowns layoutOf
+pressures-same s = refl
+
 options-is : (s : List ℕ) → hasOptions s ≡ readable 79 80 29 s 0
 unfolding hasOptions
 options-is s = refl
@@ -257,10 +272,23 @@ module _ (b : Bounds) (s : List ℕ) (l : Layout) (a : Accepted b s l) where
   pub unknowns-are : l .unknowns ≡ serving s l (l .nodes)
   unknowns-are = subst (λ (k : Layout). k .unknowns ≡ serving s k (k .nodes)) (sym (a .laid)) (unknowns-same s (layoutOf s))
 
+  -- it has a PD exactly where one stands straight after its OP, and that one's required pressure is not below its minimum
+  pub pressures-are : l .pressures ≡ hasPressures s
+  pressures-are = subst (λ (k : Layout). k .pressures ≡ hasPressures s) (sym (a .laid)) (pressures-same s)
+
+  pub pressures-ordered : l .pressures ≡ true → le (pressuresOf s .minimum) (pressuresOf s .required) ≡ true
+  pressures-ordered e = pressures-order b s (a .pressures e)
+
   -- every float is finite
   module _ (h : T (finite (b .magnitude))) where
     pub options-finite : (j : ℕ) → j < 3 → T (finite (fromBytes s (2 + 8 * j)))
     options-finite j m = within-finite b _ h (each-within b 3 s 2 (options-floats b s (a .options)) j m)
+
+    pub pressures-finite : l .pressures ≡ true → T (finite (pressuresOf s .minimum)) × T (finite (pressuresOf s .required))
+    unfolding pressuresOf
+    pressures-finite e =
+        let each = each-within b 2 s 31 (pressures-floats b s (a .pressures e)) in
+        (within-finite b _ h (each 0 (omega arith)), within-finite b _ h (each 1 (omega arith)))
 
     pub node-finite : (i : ℕ) → i < l .nodes → (j : ℕ) → j < 5 → T (finite (fromBytes s (nodePlace l i + 4 + 8 * j)))
     node-finite i n j m = within-finite b _ h (each-within b 5 s (nodePlace l i + 4) (node-floats b s (nodePlace l i) (a .each-node i n)) j m)

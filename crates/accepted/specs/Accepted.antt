@@ -8,7 +8,7 @@ use lib.ListN.{length}
 use Rattle.layout.specs.Places.{nodePlace, linkPlace}
 use Rattle.layout.specs.declared.places.Layout.{Layout}
 use Rattle.sheet.specs.Scan.{hasOptions, layoutOf, endOf}
-use Rattle.fields.specs.Fields.{optionsGood, nodeGood, linkGood}
+use Rattle.fields.specs.Fields.{optionsGood, pressuresGood, nodeGood, linkGood}
 use Rattle.ends.specs.Ends.{endsGood}
 use Rattle.sheet.specs.Read.{badField, badEnds, withUnknowns}
 use Rattle.fields.specs.declared.fields.Bounds.{Bounds}
@@ -18,7 +18,7 @@ use Rattle.found.specs.declared.Found.the-variants.{At, Nothing}
 use Rattle.sheet.specs.declared.reading.Reading.{Reading}
 use Rattle.sheet.specs.declared.reading.Reading.the-variants.{Good, Refused}
 
--- a sheet laid out so: one OP, then ND and LK as they were counted, and nothing after, so many as the bounds allow, every record's fields good, every link's ends good
+-- a sheet laid out so: one OP, a PD or none, then ND and LK as they were counted, and nothing after, so many as the bounds allow, every record's fields good, every link's ends good
 pub record Accepted (b : Bounds) (s : List ℕ) (l : Layout) : Type 0 where
   pub first : hasOptions s ≡ true
   pub laid : l ≡ withUnknowns s (layoutOf s)
@@ -27,6 +27,7 @@ pub record Accepted (b : Bounds) (s : List ℕ) (l : Layout) : Type 0 where
   pub few-nodes : l .nodes ≤ b .nodes
   pub few-links : l .links ≤ b .links
   pub options : optionsGood b s ≡ true
+  pub pressures : l .pressures ≡ true → pressuresGood b s ≡ true
   pub each-node : (i : ℕ) → i < l .nodes → nodeGood b s (nodePlace l i) ≡ true
   pub each-link : (j : ℕ) → j < l .links → linkGood b (l .nodes) s (linkPlace l j) ≡ true
   pub each-ends : (j : ℕ) → j < l .links → endsGood l s (linkPlace l j) ≡ true

@@ -1,5 +1,5 @@
 -- The assembly: one turn of each loop, and the whole, as laws of the definitions. Assumes nothing.
-use mathlib.Core.Path.{_≡_, refl, _∙_}
+use mathlib.Core.Path.{_≡_, refl, ap, _∙_}
 use mathlib.Core.Bool.{Bool, true, false}
 use mathlib.Core.List.{List}
 use Prim.Native.Nat.{ℕ, _+_, _≤_, _<_}
@@ -13,7 +13,9 @@ use Rattle.constants.specs.Constants.{smallValue}
 use Rattle.columns.specs.Columns.{cleared}
 use Rattle.numbering.specs.Numbering.{rowAt}
 use Rattle.scatter.specs.Scatter.{onDiagonal, offRow}
-use Rattle.assembly.specs.Assembly.{System, system, Sized, View, linkAdded, withLinks, demandsTaken, groundOf, groundedOf, assembleOf}
+use Rattle.assembly.specs.Assembly.{System, system, Sized, View, linkAdded, withLinks, demandsTaken, rightOf, groundOf, groundedOf, assembleOf}
+use Rattle.drawing.specs.Drawing.{counting}
+use Rattle.bends.specs.Bends.{bentMatrix, bentRight}
 use Rattle.numbering.specs.declared.Row.{Row}
 
 -- ---- all links
@@ -67,11 +69,16 @@ grounded-next s l marks i row m₀ m m₁ a h p = rw (add-one i, p, a, h)
 
 -- ---- the whole
 
-pub assembled : (s : List ℕ) (l : Layout) (v : View) (demands : List Float) (marks : List Bool) (m r g y m₁ r₁ m₂ r₂ g₂ y₂ m₃ r₃ : List Float)
+pub right-of : (s : List ℕ) (l : Layout) (demands drawn counted r r₁ r₂ : List Float) → r₁ ≡ bentRight s l demands drawn r → counted ≡ counting (l .pressures) drawn demands → r₂ ≡ demandsTaken s l counted (l .nodes) r₁ → r₂ ≡ rightOf s l demands drawn r
+unfolding rightOf
+right-of s l demands drawn counted r r₁ r₂ e f g = g ∙ ap (λ (d : List Float). demandsTaken s l d (l .nodes) r₁) f ∙ ap (demandsTaken s l (counting (l .pressures) drawn demands) (l .nodes)) e
+
+pub assembled : (s : List ℕ) (l : Layout) (v : View) (demands drawn : List Float) (marks : List Bool) (m r g y m₁ r₁ m₂ r₂ g₂ y₂ m₃ m₄ r₃ : List Float)
     → m₁ ≡ cleared 4096 m → r₁ ≡ cleared 64 r
     → system m₂ r₂ g₂ y₂ ≡ withLinks s l v (l .links) (system m₁ r₁ g y)
-    → r₃ ≡ demandsTaken s l demands (l .nodes) r₂
-    → m₃ ≡ groundedOf s l marks (l .nodes) m₂
-    → system m₃ r₃ g₂ y₂ ≡ assembleOf s l v demands marks (system m r g y)
+    → m₃ ≡ bentMatrix s l demands drawn m₂
+    → r₃ ≡ rightOf s l demands drawn r₂
+    → m₄ ≡ groundedOf s l marks (l .nodes) m₃
+    → system m₄ r₃ g₂ y₂ ≡ assembleOf s l v demands drawn marks (system m r g y)
 unfolding assembleOf
-assembled s l v demands marks m r g y m₁ r₁ m₂ r₂ g₂ y₂ m₃ r₃ a b h d e = rw (← a, ← b, ← h, d, e)
+assembled s l v demands drawn marks m r g y m₁ r₁ m₂ r₂ g₂ y₂ m₃ m₄ r₃ a b h f d e = rw (← a, ← b, ← h, d, e, f)

@@ -11,7 +11,10 @@ use Rattle.constants.specs.Constants.{smallValue}
 use Rattle.columns.specs.Columns.{cleared}
 use Rattle.numbering.specs.Numbering.{rowAt}
 use Rattle.scatter.specs.Scatter.{onDiagonal}
-use Rattle.assembly.specs.Assembly.{System, system, View, withLinks, demandsTaken, groundOf, groundedOf, assembleOf}
+use Rattle.assembly.specs.Assembly.{System, system, View, withLinks, demandsTaken, rightOf, groundOf, groundedOf, assembleOf}
+use Rattle.drawing.specs.Drawing.{counting}
+use Rattle.bends.specs.Bends.{bentMatrix, bentRight}
+use Rattle.bends.proofs.Laws.{bent-matrix-long, bent-right-long}
 use Rattle.numbering.specs.declared.Row.{Row}
 use Rattle.columns.proofs.Laws.{cleared-long}
 use Rattle.rows.proofs.Lengths.{off-row-long, on-diagonal-long}
@@ -37,14 +40,21 @@ unfolding groundedOf
 grounded-long s l marks zero m = refl
 grounded-long s l marks (suc i) m = ground-long (getD marks i false) (rowAt s l i) (groundedOf s l marks i m) ∙ grounded-long s l marks i m
 
-pub assemble-long : (s : List ℕ) (l : Layout) (v : View) (demands : List Float) (marks : List Bool) (a : System) → SameLengths (assembleOf s l v demands marks a) a
+pub right-long : (s : List ℕ) (l : Layout) (demands drawn r : List Float) → length (rightOf s l demands drawn r) ≡ length r
+unfolding rightOf
+right-long s l demands drawn r = demands-long s l (counting (l .pressures) drawn demands) (l .nodes) (bentRight s l demands drawn r) ∙ bent-right-long s l demands drawn r
+
+pub assemble-long : (s : List ℕ) (l : Layout) (v : View) (demands drawn : List Float) (marks : List Bool) (a : System) → SameLengths (assembleOf s l v demands drawn marks a) a
 unfolding assembleOf
-assemble-long s l v demands marks a =
+assemble-long s l v demands drawn marks a =
     let w : System = system (cleared 4096 (a .matrix)) (cleared 64 (a .rhs)) (a .g) (a .y) in
     let d = links-long s l v (l .links) w in
     record {
-      matrix = grounded-long s l marks (l .nodes) (withLinks s l v (l .links) w .matrix) ∙ d .matrix ∙ cleared-long 4096 (a .matrix);
-      rhs = demands-long s l demands (l .nodes) (withLinks s l v (l .links) w .rhs) ∙ d .rhs ∙ cleared-long 64 (a .rhs);
+      matrix =
+          grounded-long s l marks (l .nodes) (bentMatrix s l demands drawn (withLinks s l v (l .links) w .matrix))
+          ∙ bent-matrix-long s l demands drawn (withLinks s l v (l .links) w .matrix)
+          ∙ d .matrix ∙ cleared-long 4096 (a .matrix);
+      rhs = right-long s l demands drawn (withLinks s l v (l .links) w .rhs) ∙ d .rhs ∙ cleared-long 64 (a .rhs);
       g = d .g;
       y = d .y;
     }

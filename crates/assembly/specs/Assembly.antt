@@ -1,4 +1,4 @@
--- Document 01, item 6: the matrix and the right side: links in order, then node demands, then SMALL_VALUE on each grounded diagonal. Definitions only.
+-- Document 01, item 6: the matrix and the right side: links in order, then, where a PD stands, the bends of demands that give way (request [11]), then node demands, then SMALL_VALUE on each grounded diagonal. Definitions only.
 use Prim.Native.Nat.{ℕ, zero, suc}
 use mathlib.Core.Bool.{Bool, false, cond}
 use mathlib.Core.List.{List}
@@ -11,6 +11,8 @@ use Rattle.columns.specs.Columns.{cleared}
 use Rattle.numbering.specs.Numbering.{rowAt}
 use Rattle.scatter.specs.Scatter.{onDiagonal, offRow}
 use Rattle.numbering.specs.declared.Row.{Row}
+use Rattle.drawing.specs.Drawing.{counting}
+use Rattle.bends.specs.Bends.{bentMatrix, bentRight}
 -- what one link adds, from crate link_rows
 pub use Rattle.link_rows.specs.LinkRows.{System, system, View, view, Given, Sized}
 unfoldable pub use Rattle.link_rows.specs.LinkRows.{coefficientsAt, linkPlaced, linkAdded}
@@ -38,9 +40,14 @@ unfolding rowAt groundOf
 groundedOf s l marks zero m = m
 groundedOf s l marks (suc i) m = groundOf (getD marks i false) (rowAt s l i) (groundedOf s l marks i m)
 
+-- the right side once the bends are in and the demands that count are taken
+unfoldable pub rightOf : List ℕ → Layout → List Float → List Float → List Float → List Float
+unfolding demandsTaken
+rightOf s l demands drawn r = demandsTaken s l (counting (l .pressures) drawn demands) (l .nodes) (bentRight s l demands drawn r)
+
 -- the whole, from +0.0 throughout
-unfoldable pub assembleOf : List ℕ → Layout → View → List Float → List Bool → System → System
-unfolding withLinks demandsTaken groundedOf cleared
-assembleOf s l v demands marks a =
+unfoldable pub assembleOf : List ℕ → Layout → View → List Float → List Float → List Bool → System → System
+unfolding withLinks rightOf groundedOf cleared
+assembleOf s l v demands drawn marks a =
     let b = withLinks s l v (l .links) (system (cleared 4096 (a .matrix)) (cleared 64 (a .rhs)) (a .g) (a .y)) in
-    system (groundedOf s l marks (l .nodes) (b .matrix)) (demandsTaken s l demands (l .nodes) (b .rhs)) (b .g) (b .y)
+    system (groundedOf s l marks (l .nodes) (bentMatrix s l demands drawn (b .matrix))) (rightOf s l demands drawn (b .rhs)) (b .g) (b .y)

@@ -1,12 +1,16 @@
-// The matrix and the right side: links in order, then node demands, then the grounded diagonals.
+// The matrix and the right side: links in order, then bends and node demands, then the grounded
+// diagonals.
 ghost use mathlib.Core.Path.{_≡_};
 ghost use Prim.Native.Nat.{_≤_};
 ghost use lib.ListN.{length};
 ghost use Rattle.power.specs.Tables.{powerTable};
 ghost use Rattle.numbering.specs.Numbering.{RowsRight, RowBelow};
-ghost use Rattle.assembly.specs.Assembly.{system, Given, Sized, view, withLinks, demandsTaken, groundOf, groundedOf, assembleOf};
+ghost use Rattle.bends.specs.Bends.{Bending, bentMatrix};
+ghost use Rattle.assembly.specs.Assembly.{system, Given, Sized, view, withLinks, demandsTaken, rightOf, groundOf, groundedOf, assembleOf};
+use bends::add_bends;
 use columns::clear;
 use constants::SMALL_VALUE;
+use drawing::counts;
 use layout::Layout;
 use link_rows::add_link;
 use nodes::NodeIndex;
@@ -68,6 +72,26 @@ fn take_demands(sheet: &[u8], l: Layout, unknowns: &[usize], demands: &[f64], rh
     }
 }
 
+// The bends, then the demands that count.
+fn add_demands<'a>(
+    sheet: &[u8],
+    l: Layout,
+    unknowns: &[usize],
+    demands: &'a [f64],
+    drawn: &'a [f64],
+    matrix: &mut [f64],
+    rhs: &mut [f64],
+)
+    requires { ⌜ Bending l (now sheet) (now unknowns) (now demands) (now drawn) ⌝ }
+    requires { ⌜ (length (now matrix) ≡ 4096) × (64 ≤ length (now rhs)) ⌝ }
+    ensures matrix { λ _. ⌜ now (matrix .exit) ≡ bentMatrix (now (sheet .entry)) l (now (demands .entry)) (now (drawn .entry)) (now (matrix .entry)) ⌝ }
+    ensures rhs { λ _. ⌜ now (rhs .exit) ≡ rightOf (now (sheet .entry)) l (now (demands .entry)) (now (drawn .entry)) (now (rhs .entry)) ⌝ }
+{
+    add_bends(sheet, l, unknowns, demands, drawn, matrix, rhs);
+    let counted = counts(l.pressures, drawn, demands);
+    take_demands(sheet, l, unknowns, counted, rhs);
+}
+
 // Adds SMALL_VALUE on the diagonal of a grounded node.
 fn ground(grounded: bool, row: Row, matrix: &mut [f64])
     requires { ⌜ length (now matrix) ≡ 4096 ⌝ }
@@ -94,13 +118,14 @@ fn add_grounded(sheet: &[u8], l: Layout, unknowns: &[usize], grounded: &[bool], 
 
 // Fills the matrix and the right side, whatever they held, and the links' g and y. The columns of
 // links that are not in service keep what they held.
-pub fn assemble(
+pub fn assemble<'a>(
     sheet: &[u8],
     l: Layout,
     unknowns: &[usize],
     table: &[u64; 1153],
     heads: &[f64],
-    demands: &[f64],
+    demands: &'a [f64],
+    drawn: &'a [f64],
     flows: &[f64],
     statuses: &[u8],
     grounded: &[bool],
@@ -112,9 +137,9 @@ pub fn assemble(
 )
     requires { ⌜ Given l (now sheet) (now unknowns) (view (now heads) (now flows) (now statuses) (now excess)) ⌝ }
     requires { ⌜ Sized l (system (now matrix) (now rhs) (now g) (now y)) ⌝ }
-    requires { ⌜ (l .nodes ≤ length (now demands)) × (l .nodes ≤ length (now grounded)) ⌝ }
+    requires { ⌜ (l .nodes ≤ length (now demands)) × ((l .nodes ≤ length (now drawn)) × (l .nodes ≤ length (now grounded))) ⌝ }
     requires { ⌜ now table ≡ powerTable ⌝ }
-    ensures { λ _. ⌜ system (now (matrix .exit)) (now (rhs .exit)) (now (g .exit)) (now (y .exit)) ≡ assembleOf (now (sheet .entry)) l (view (now (heads .entry)) (now (flows .entry)) (now (statuses .entry)) (now (excess .entry))) (now (demands .entry)) (now (grounded .entry)) (system (now (matrix .entry)) (now (rhs .entry)) (now (g .entry)) (now (y .entry))) ⌝ }
+    ensures { λ _. ⌜ system (now (matrix .exit)) (now (rhs .exit)) (now (g .exit)) (now (y .exit)) ≡ assembleOf (now (sheet .entry)) l (view (now (heads .entry)) (now (flows .entry)) (now (statuses .entry)) (now (excess .entry))) (now (demands .entry)) (now (drawn .entry)) (now (grounded .entry)) (system (now (matrix .entry)) (now (rhs .entry)) (now (g .entry)) (now (y .entry))) ⌝ }
 {
     clear(4096, matrix);
     clear(64, rhs);
@@ -132,6 +157,6 @@ pub fn assemble(
         g,
         y,
     );
-    take_demands(sheet, l, unknowns, demands, rhs);
+    add_demands(sheet, l, unknowns, demands, drawn, matrix, rhs);
     add_grounded(sheet, l, unknowns, grounded, matrix);
 }

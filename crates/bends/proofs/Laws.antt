@@ -1,6 +1,6 @@
 -- The bends: what each function makes, one turn of the loop, and the lengths that they keep, as laws of the definitions. Assumes nothing.
-use mathlib.Core.Path.{_≡_, refl, ap, _∙_}
-use mathlib.Core.Bool.{Bool, true, false, _&&_}
+use mathlib.Core.Path.{_≡_, refl, sym, ap, _∙_}
+use mathlib.Core.Bool.{Bool, true, false}
 use mathlib.Core.List.{List}
 use Prim.Native.Nat.{ℕ, zero, suc, _+_, _≤_, _<_}
 use native.Mathlib.Numerals.{add-one}
@@ -8,12 +8,14 @@ use native.Mathlib.Omega.{arith}
 use lib.ListN.{length, getD}
 use lib.Ieee.{Float, nan, lt}
 use Rattle.layout.specs.declared.places.Layout.{Layout}
+use Rattle.records.specs.Records.{pressuresOf}
 use Rattle.records.specs.declared.records.Pressures.{Pressures}
 use Rattle.constants.specs.Arithmetic.{plus, times, over}
 use Rattle.constants.specs.Constants as constant
 use Rattle.nodes.specs.Nodes.{inService, elevationOf}
-use Rattle.drawing.specs.Drawing.{rangeOf, bendOf}
+use Rattle.drawing.specs.Drawing.{givesWay, rangeOf, bendOf}
 use Rattle.drawing.specs.declared.Bend.{Bend}
+use Rattle.drawing.proofs.Laws.{with-pressures, without-pressures}
 use Rattle.numbering.specs.Numbering.{rowAt}
 use Rattle.numbering.specs.declared.Row.{Row}
 use Rattle.rows.specs.Rows.{onRow, onDiagonal}
@@ -32,19 +34,19 @@ module _ (b : Bend) (elevation minimum : Float) (row : Row) where
   bend-off m r t = (rw t, rw t)
 
 module _ (s : List ℕ) (l : Layout) (p : Pressures) (asked drawn : List Float) where
-  pub node-bent : (i : ℕ) (serving : Bool) (row : Row) (b : Bend) (range up : Float) (m m₁ r r₁ : List Float) → serving ≡ inService s l i → (serving && lt constant.zero (getD asked i nan)) ≡ true
+  pub node-bent : (i : ℕ) (serving gives : Bool) (row : Row) (b : Bend) (range up : Float) (m m₁ r r₁ : List Float) → serving ≡ inService s l i → gives ≡ givesWay serving (getD asked i nan) → gives ≡ true
       → row ≡ rowAt s l i → range ≡ rangeOf p → b ≡ bendOf (getD drawn i nan) (getD asked i nan) range → up ≡ elevationOf s l i
       → m₁ ≡ bendDiagonal b row m → r₁ ≡ bendRow b up (p .minimum) row r → (m₁ ≡ nodeDiagonal s l p asked drawn i m) × (r₁ ≡ nodeRow s l p asked drawn i r)
   unfolding nodeDiagonal nodeRow bends
-  node-bent i serving row b range up m m₁ r r₁ es t ew er eb eu em ek =
+  node-bent i serving gives row b range up m m₁ r r₁ es eg t ew er eb eu em ek =
       let bend : b ≡ bendOf (getD drawn i nan) (getD asked i nan) (rangeOf p) = eb ∙ ap (bendOf (getD drawn i nan) (getD asked i nan)) er in (
-        rw (← es, t) (em ∙ ap (λ (w : Row). bendDiagonal b w m) ew ∙ ap (λ (c : Bend). bendDiagonal c (rowAt s l i) m) bend),
-        rw (← es, t) (ek ∙ ap (λ (x : Float). bendRow b x (p .minimum) row r) eu ∙ ap (λ (w : Row). bendRow b (elevationOf s l i) (p .minimum) w r) ew ∙ ap (λ (c : Bend). bendRow c (elevationOf s l i) (p .minimum) (rowAt s l i) r) bend),
+        rw (← es, ← eg, t) (em ∙ ap (λ (w : Row). bendDiagonal b w m) ew ∙ ap (λ (c : Bend). bendDiagonal c (rowAt s l i) m) bend),
+        rw (← es, ← eg, t) (ek ∙ ap (λ (x : Float). bendRow b x (p .minimum) row r) eu ∙ ap (λ (w : Row). bendRow b (elevationOf s l i) (p .minimum) w r) ew ∙ ap (λ (c : Bend). bendRow c (elevationOf s l i) (p .minimum) (rowAt s l i) r) bend),
       )
 
-  pub node-straight : (i : ℕ) (serving : Bool) (m r : List Float) → serving ≡ inService s l i → (serving && lt constant.zero (getD asked i nan)) ≡ false → (m ≡ nodeDiagonal s l p asked drawn i m) × (r ≡ nodeRow s l p asked drawn i r)
+  pub node-straight : (i : ℕ) (serving gives : Bool) (m r : List Float) → serving ≡ inService s l i → gives ≡ givesWay serving (getD asked i nan) → gives ≡ false → (m ≡ nodeDiagonal s l p asked drawn i m) × (r ≡ nodeRow s l p asked drawn i r)
   unfolding nodeDiagonal nodeRow bends
-  node-straight i serving m r es t = (rw (← es, t), rw (← es, t))
+  node-straight i serving gives m r es eg t = (rw (← es, ← eg, t), rw (← es, ← eg, t))
 
   -- the loop after i nodes, with the columns as they are and as they were
   pub record Bent (m₀ r₀ m r : List Float) (i : ℕ) : Type 0 where
@@ -63,8 +65,7 @@ module _ (s : List ℕ) (l : Layout) (p : Pressures) (asked drawn : List Float) 
   next-bent m₀ r₀ m r m₁ r₁ i w more em er lm lr =
       record { upto = omega arith; diagonals = rw (add-one i, em, w .diagonals); right = rw (add-one i, er, w .right); m-long = lm ∙ w .m-long; r-long = lr ∙ w .r-long }
 
-  pub bent-whole : (m₀ r₀ m r : List Float) (i : ℕ) → i ≡ l .nodes → Bent m₀ r₀ m r i → (m ≡ bentMatrix s l p asked drawn m₀) × (r ≡ bentRight s l p asked drawn r₀)
-  unfolding bentMatrix bentRight
+  pub bent-whole : (m₀ r₀ m r : List Float) (i : ℕ) → i ≡ l .nodes → Bent m₀ r₀ m r i → (m ≡ diagonalBends s l p asked drawn (l .nodes) m₀) × (r ≡ rowBends s l p asked drawn (l .nodes) r₀)
   bent-whole m₀ r₀ m r i e w = (w .diagonals ∙ ap (λ (n : ℕ). diagonalBends s l p asked drawn n m₀) e, w .right ∙ ap (λ (n : ℕ). rowBends s l p asked drawn n r₀) e)
 
 bend-row-long : (b : Bend) (up minimum : Float) (row : Row) (r : List Float) → length (bendRow b up minimum row r) ≡ length r
@@ -86,10 +87,22 @@ module _ (s : List ℕ) (l : Layout) (p : Pressures) (asked drawn : List Float) 
   rows-long zero r = refl
   rows-long (suc i) r = either-long (bends s l asked i) _ (rowBends s l p asked drawn i r) r (bend-row-long _ _ _ (rowAt s l i) (rowBends s l p asked drawn i r) ∙ rows-long i r) (rows-long i r)
 
-  pub bent-matrix-long : (m : List Float) → length (bentMatrix s l p asked drawn m) ≡ length m
-  unfolding bentMatrix
-  bent-matrix-long m = diagonals-long (l .nodes) m
+module _ (s : List ℕ) (l : Layout) (asked drawn : List Float) where
+  -- where a PD stands, and where none does
+  pub bent-pressures : (p : Pressures) (m m₁ r r₁ : List Float) → l .pressures ≡ true → p ≡ pressuresOf s → m₁ ≡ diagonalBends s l p asked drawn (l .nodes) m → r₁ ≡ rowBends s l p asked drawn (l .nodes) r
+      → (m₁ ≡ bentMatrix s l asked drawn m) × (r₁ ≡ bentRight s l asked drawn r)
+  unfolding bentMatrix bentRight
+  bent-pressures p m m₁ r r₁ t e em er =
+      (em ∙ ap (λ (v : Pressures). diagonalBends s l v asked drawn (l .nodes) m) e ∙ sym (with-pressures (l .pressures) _ m t), er ∙ ap (λ (v : Pressures). rowBends s l v asked drawn (l .nodes) r) e ∙ sym (with-pressures (l .pressures) _ r t))
 
-  pub bent-right-long : (r : List Float) → length (bentRight s l p asked drawn r) ≡ length r
+  pub bent-none : (m r : List Float) → l .pressures ≡ false → (m ≡ bentMatrix s l asked drawn m) × (r ≡ bentRight s l asked drawn r)
+  unfolding bentMatrix bentRight
+  bent-none m r t = (sym (without-pressures (l .pressures) _ m t), sym (without-pressures (l .pressures) _ r t))
+
+  pub bent-matrix-long : (m : List Float) → length (bentMatrix s l asked drawn m) ≡ length m
+  unfolding bentMatrix
+  bent-matrix-long m = either-long (l .pressures) _ m m (diagonals-long s l (pressuresOf s) asked drawn (l .nodes) m) refl
+
+  pub bent-right-long : (r : List Float) → length (bentRight s l asked drawn r) ≡ length r
   unfolding bentRight
-  bent-right-long r = rows-long (l .nodes) r
+  bent-right-long r = either-long (l .pressures) _ r r (rows-long s l (pressuresOf s) asked drawn (l .nodes) r) refl

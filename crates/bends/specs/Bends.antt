@@ -1,16 +1,17 @@
 -- Request [11], junction.rs and the assembly of the Rust: what demands that give way to pressure add to the matrix and to the right side. Definitions only.
 use Prim.Native.Nat.{ℕ, zero, suc, _≤_}
-use mathlib.Core.Bool.{Bool, cond, _&&_}
+use mathlib.Core.Bool.{Bool, cond}
 use mathlib.Core.List.{List}
 use lib.ListN.{length, getD}
 use lib.Ieee.{Float, nan, lt}
 use Rattle.layout.specs.Places.{Laid}
 use Rattle.layout.specs.declared.places.Layout.{Layout}
+use Rattle.records.specs.Records.{pressuresOf}
 use Rattle.records.specs.declared.records.Pressures.{Pressures}
 use Rattle.constants.specs.Arithmetic.{plus, times, over}
 use Rattle.constants.specs.Constants as constant
 use Rattle.nodes.specs.Nodes.{inService, elevationOf}
-use Rattle.drawing.specs.Drawing.{rangeOf, bendOf}
+use Rattle.drawing.specs.Drawing.{givesWay, rangeOf, bendOf}
 use Rattle.drawing.specs.declared.Bend.{Bend}
 use Rattle.numbering.specs.Numbering.{rowAt, RowsRight}
 use Rattle.rows.specs.Rows.{onRow, onDiagonal}
@@ -24,9 +25,9 @@ bendRow b elevation minimum row r =
 unfoldable pub bendDiagonal : Bend → Row → List Float → List Float
 bendDiagonal b row m = cond (lt constant.zero (over constant.one (b .conductance))) (onDiagonal row (b .conductance) m) m
 
--- node i is a junction in service with a demand above 0: its demand bends
+-- the demand of node i gives way
 unfoldable pub bends : List ℕ → Layout → List Float → ℕ → Bool
-bends s l asked i = inService s l i && lt constant.zero (getD asked i nan)
+bends s l asked i = givesWay (inService s l i) (getD asked i nan)
 
 -- the bend of node i, on its diagonal and in its row
 unfoldable pub nodeDiagonal : List ℕ → Layout → Pressures → List Float → List Float → ℕ → List Float → List Float
@@ -54,9 +55,9 @@ pub record Bending (l : Layout) (s unknowns : List ℕ) (asked drawn : List Floa
   pub drawn-long : l .nodes ≤ length drawn
   pub rows : RowsRight l s unknowns
 
--- all of them
-unfoldable pub bentMatrix : List ℕ → Layout → Pressures → List Float → List Float → List Float → List Float
-bentMatrix s l p asked drawn m = diagonalBends s l p asked drawn (l .nodes) m
+-- all of them, where a PD stands
+unfoldable pub bentMatrix : List ℕ → Layout → List Float → List Float → List Float → List Float
+bentMatrix s l asked drawn m = cond (l .pressures) (diagonalBends s l (pressuresOf s) asked drawn (l .nodes) m) m
 
-unfoldable pub bentRight : List ℕ → Layout → Pressures → List Float → List Float → List Float → List Float
-bentRight s l p asked drawn r = rowBends s l p asked drawn (l .nodes) r
+unfoldable pub bentRight : List ℕ → Layout → List Float → List Float → List Float → List Float
+bentRight s l asked drawn r = cond (l .pressures) (rowBends s l (pressuresOf s) asked drawn (l .nodes) r) r

@@ -3,9 +3,10 @@ ghost use mathlib.Core.Path.{_≡_};
 ghost use Prim.Native.Nat.{_<_, _≤_};
 ghost use lib.ListN.{length};
 ghost use Rattle.numbering.specs.Numbering.{RowBelow};
-ghost use Rattle.bends.specs.Bends.{bendRow, bendDiagonal, Bending, nodeDiagonal, nodeRow, bentMatrix, bentRight};
+ghost use Rattle.bends.specs.Bends.{bendRow, bendDiagonal, Bending, nodeDiagonal, nodeRow, diagonalBends, rowBends, bentMatrix, bentRight};
 use drawing::Bend;
 use drawing::bend_of;
+use drawing::gives_way;
 use drawing::pressure_range;
 use layout::Layout;
 use nodes::NodeIndex;
@@ -14,6 +15,7 @@ use nodes::in_service;
 use numbering::Row;
 use numbering::unknown_of;
 use records::Pressures;
+use records::pressures_of;
 use rows::add_to_diagonal;
 use rows::add_to_row;
 
@@ -30,7 +32,7 @@ fn add_bend(b: Bend, elevation: f64, minimum: f64, row: Row, matrix: &mut [f64],
     }
 }
 
-// The bend of node i's demand, where it is a junction in service with a demand above 0.
+// The bend of node i's demand, where it gives way.
 fn bend_node(
     sheet: &[u8],
     l: Layout,
@@ -47,7 +49,7 @@ fn bend_node(
     ensures matrix { λ _. ⌜ now (matrix .exit) ≡ nodeDiagonal (now (sheet .entry)) l p (now (asked .entry)) (now (drawn .entry)) i (now (matrix .entry)) ⌝ }
     ensures rhs { λ _. ⌜ now (rhs .exit) ≡ nodeRow (now (sheet .entry)) l p (now (asked .entry)) (now (drawn .entry)) i (now (rhs .entry)) ⌝ }
 {
-    if in_service(sheet, l, i) & (asked[i] > 0.0) {
+    if gives_way(in_service(sheet, l, i), asked[i]) {
         let row = unknown_of(unknowns, NodeIndex(i));
         let b = bend_of(drawn[i], asked[i], pressure_range(p));
         let up = elevation(sheet, l, i);
@@ -56,7 +58,7 @@ fn bend_node(
 }
 
 // The bends of all nodes, under these pressures.
-pub fn add_bends(
+fn bend_nodes(
     sheet: &[u8],
     l: Layout,
     p: Pressures,
@@ -68,10 +70,39 @@ pub fn add_bends(
 )
     requires { ⌜ Bending l (now sheet) (now unknowns) (now asked) (now drawn) ⌝ }
     requires { ⌜ (length (now matrix) ≡ 4096) × (64 ≤ length (now rhs)) ⌝ }
-    ensures matrix { λ _. ⌜ now (matrix .exit) ≡ bentMatrix (now (sheet .entry)) l p (now (asked .entry)) (now (drawn .entry)) (now (matrix .entry)) ⌝ }
-    ensures rhs { λ _. ⌜ now (rhs .exit) ≡ bentRight (now (sheet .entry)) l p (now (asked .entry)) (now (drawn .entry)) (now (rhs .entry)) ⌝ }
+    ensures matrix { λ _. ⌜ now (matrix .exit) ≡ diagonalBends (now (sheet .entry)) l p (now (asked .entry)) (now (drawn .entry)) (l .nodes) (now (matrix .entry)) ⌝ }
+    ensures rhs { λ _. ⌜ now (rhs .exit) ≡ rowBends (now (sheet .entry)) l p (now (asked .entry)) (now (drawn .entry)) (l .nodes) (now (rhs .entry)) ⌝ }
 {
     for i in 0..l.nodes {
         bend_node(sheet, l, p, unknowns, i, asked, drawn, matrix, rhs);
+    }
+}
+
+// The bends of all nodes, where a PD stands.
+pub fn add_bends(
+    sheet: &[u8],
+    l: Layout,
+    unknowns: &[usize],
+    asked: &[f64],
+    drawn: &[f64],
+    matrix: &mut [f64],
+    rhs: &mut [f64],
+)
+    requires { ⌜ Bending l (now sheet) (now unknowns) (now asked) (now drawn) ⌝ }
+    requires { ⌜ (length (now matrix) ≡ 4096) × (64 ≤ length (now rhs)) ⌝ }
+    ensures matrix { λ _. ⌜ now (matrix .exit) ≡ bentMatrix (now (sheet .entry)) l (now (asked .entry)) (now (drawn .entry)) (now (matrix .entry)) ⌝ }
+    ensures rhs { λ _. ⌜ now (rhs .exit) ≡ bentRight (now (sheet .entry)) l (now (asked .entry)) (now (drawn .entry)) (now (rhs .entry)) ⌝ }
+{
+    if l.pressures {
+        bend_nodes(
+            sheet,
+            l,
+            pressures_of(sheet),
+            unknowns,
+            asked,
+            drawn,
+            matrix,
+            rhs,
+        );
     }
 }

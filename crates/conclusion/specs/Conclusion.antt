@@ -6,6 +6,7 @@ use lib.Ieee.{Float}
 use Rattle.layout.specs.declared.places.Layout.{Layout}
 use Rattle.columns.specs.Columns.{zeros, copied}
 use Rattle.state.specs.State.{State}
+use Rattle.drawing.specs.Drawing.{counting}
 use Rattle.balance.specs.Balance.{balanceOf, settledOf}
 use Rattle.entries.specs.declared.Ended.{Ended}
 use Rattle.entries.specs.declared.Ended.the-variants.{Balanced, Failed, Strayed, Limit}
@@ -25,7 +26,7 @@ unsolved number place tally bytes b =
       lent = lent (b .heads) (b .demands) (b .flows) (b .statuses) bytes (emptied (b .scratch));
     }
 
--- 0: the balance, then each demand gains +0.0, then the results are written
+-- 0: the balance by what is asked, then the results are written, then each demand, the one that counts, gains +0.0
 unfoldable pub delivered : List ℕ → Layout → Lent → State → Tally → List ℕ → Solved
 unfolding copied emptied
 delivered s l b t tally bytes =
@@ -33,16 +34,9 @@ delivered s l b t tally bytes =
     record {
       answer = record { number = 0; place = 0; trials = tally .trials; freed = tally .freed; grounded = tally .grounded; demand = w .demand; supply = w .supply; error = w .error };
       lent =
-          lent (copied (l .nodes) (t .heads) (b .heads)) (copied (l .nodes) (settledOf (l .nodes) (t .demands)) (b .demands))
+          lent (copied (l .nodes) (t .heads) (b .heads)) (settledOf (l .nodes) (copied (l .nodes) (counting (l .pressures) (t .drawn) (t .demands)) (b .demands)))
           (copied (l .links) (t .flows) (b .flows)) (copied (l .links) (t .statuses) (b .statuses)) bytes (emptied (b .scratch));
     }
-
--- the run's own demands after its end is told: on 0 each has gained +0.0
-unfoldable pub settledBy : Ended → ℕ → List Float → List Float
-settledBy Balanced n d = settledOf n d
-settledBy (Failed i) n d = d
-settledBy (Strayed place) n d = d
-settledBy Limit n d = d
 
 -- how the end of a run of at most so many trials is told
 unfoldable pub told : List ℕ → Layout → ℕ → Lent → State → Tally → List ℕ → Ended → Solved

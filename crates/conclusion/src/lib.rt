@@ -11,11 +11,12 @@ ghost use Rattle.links.specs.Links.{EndsIn};
 ghost use Rattle.state.specs.State.{state};
 ghost use Rattle.columns.specs.Columns.{copied};
 ghost use Rattle.answers.specs.Answers.{lent};
-ghost use Rattle.conclusion.specs.Conclusion.{emptied, settledBy, told};
+ghost use Rattle.conclusion.specs.Conclusion.{emptied, told};
 use answers::Answer;
 use answers::failed;
 use columns::copy_bytes;
 use columns::copy_floats;
+use drawing::counts;
 use entries::Ended;
 use entries::Tally;
 use layout::Layout;
@@ -46,14 +47,15 @@ fn give(
 }
 
 // What a run came to, told: results on 0 alone. The columns are the run's own.
-pub fn conclude(
+pub fn conclude<'a>(
     sheet: &[u8],
     l: Layout,
     trials: usize,
     ended: Ended,
     tally: Tally,
     h: &[f64],
-    d: &mut [f64],
+    d: &'a [f64],
+    f: &'a [f64],
     q: &[f64],
     c: &[u8],
     heads: &mut [f64],
@@ -64,15 +66,15 @@ pub fn conclude(
     requires { ⌜ Laid l (now sheet) ⌝ }
     requires { ⌜ EndsIn l (now sheet) ⌝ }
     requires { ⌜ (l .nodes ≤ length (now heads)) × (l .nodes ≤ length (now demands)) × (l .links ≤ length (now flows)) × (l .links ≤ length (now statuses)) ⌝ }
-    requires { ⌜ (l .nodes ≤ length (now h)) × (l .nodes ≤ length (now d)) × (l .links ≤ length (now q)) × (l .links ≤ length (now c)) ⌝ }
-    ensures told { λ r. ⌜ ((marks : List Bool) (bytes record₀ : List ℕ) (scratch : List Float) → record { answer = r; lent = lent (now (heads .exit)) (now (demands .exit)) (now (flows .exit)) (now (statuses .exit)) bytes (emptied scratch) } ≡ told (now (sheet .entry)) l trials (lent (now (heads .entry)) (now (demands .entry)) (now (flows .entry)) (now (statuses .entry)) record₀ scratch) (state (now (h .entry)) (now (d .entry)) (now (q .entry)) (now (c .entry)) marks) tally bytes ended) ⌝ }
-    ensures settled { λ _. ⌜ now (d .exit) ≡ settledBy ended (l .nodes) (now (d .entry)) ⌝ }
+    requires { ⌜ (l .nodes ≤ length (now h)) × (l .nodes ≤ length (now d)) × (l .nodes ≤ length (now f)) × (l .links ≤ length (now q)) × (l .links ≤ length (now c)) ⌝ }
+    ensures { λ r. ⌜ ((marks : List Bool) (bytes record₀ : List ℕ) (scratch : List Float) → record { answer = r; lent = lent (now (heads .exit)) (now (demands .exit)) (now (flows .exit)) (now (statuses .exit)) bytes (emptied scratch) } ≡ told (now (sheet .entry)) l trials (lent (now (heads .entry)) (now (demands .entry)) (now (flows .entry)) (now (statuses .entry)) record₀ scratch) (state (now (h .entry)) (now (d .entry)) (now (f .entry)) (now (q .entry)) (now (c .entry)) marks) tally bytes ended) ⌝ }
 {
     match ended {
         Ended::Balanced => {
             let t = balance::balanced(sheet, l, d, q);
-            balance::settle(l.nodes, d);
-            give(l, heads, demands, flows, statuses, h, d, q, c);
+            let counted = counts(l.pressures, f, d);
+            give(l, heads, demands, flows, statuses, h, counted, q, c);
+            balance::settle(l.nodes, demands);
             Answer {
                 number: 0,
                 place: 0,

@@ -1,5 +1,5 @@
 -- Request [11]: junction.rs `demand_coefficients` with pressure exponent 0.5, and the column that counts. Definitions only.
-use mathlib.Core.Bool.{Bool, true, false, cond}
+use mathlib.Core.Bool.{Bool, true, false, cond, _&&_}
 use mathlib.Core.List.{List}
 use lib.Ieee.{Float, lt, le}
 use Rattle.float.specs.Order.{largerOf}
@@ -12,6 +12,10 @@ use Rattle.drawing.specs.declared.Bend.{Bend}
 unfoldable pub counting : Bool → List Float → List Float → List Float
 counting true drawn asked = drawn
 counting false drawn asked = asked
+
+-- a demand above 0 of a junction in service
+unfoldable pub givesWay : Bool → Float → Bool
+givesWay serving asked = serving && lt constant.zero asked
 
 -- from minimum to required pressure, and at least PDA_MIN_DIFF
 unfoldable pub rangeOf : Pressures → Float

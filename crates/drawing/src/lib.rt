@@ -1,7 +1,7 @@
 // Demand that gives way to pressure, by value: junction.rs `demand_coefficients` with pressure
 // exponent 0.5, so that its n is 2 and a power of n - 1 is its argument.
 ghost use mathlib.Core.Path.{_≡_};
-ghost use Rattle.drawing.specs.Drawing.{counting, rangeOf, within, bendOf};
+ghost use Rattle.drawing.specs.Drawing.{givesWay, counting, rangeOf, within, bendOf};
 use constants::BIG_VALUE;
 use constants::PDA_MIN_DIFF;
 use constants::RQ_TOL;
@@ -19,6 +19,13 @@ pub fn counts<'a>(pressures: bool, drawn: &'a [f64], asked: &'a [f64]) -> &'a [f
     ensures { λ r. ⌜ now r ≡ counting pressures (now (drawn .entry)) (now (asked .entry)) ⌝ }
 {
     if pressures { drawn } else { asked }
+}
+
+// Only a demand above 0 of a junction in service gives way to pressure.
+pub fn gives_way(serving: bool, asked: f64) -> bool
+    ensures { λ r. ⌜ r ≡ givesWay serving asked ⌝ }
+{
+    serving & (asked > 0.0)
 }
 
 // From minimum to required pressure, and never less than a tenth of a foot.

@@ -9,12 +9,14 @@ use borrow.Author.Tests.{not-true, not-false}
 use lib.ListN.{length, getD, set, length-set}
 use lib.Ieee.{Float, nan, lt}
 use Rattle.layout.specs.declared.places.Layout.{Layout}
+use Rattle.records.specs.Records.{pressuresOf}
 use Rattle.records.specs.declared.records.Pressures.{Pressures}
 use Rattle.constants.specs.Arithmetic.{minus}
 use Rattle.constants.specs.Constants as constant
 use Rattle.nodes.specs.Nodes.{enabled, inService, elevationOf}
-use Rattle.drawing.specs.Drawing.{rangeOf, bendOf}
+use Rattle.drawing.specs.Drawing.{givesWay, rangeOf, bendOf}
 use Rattle.drawing.specs.declared.Bend.{Bend}
+use Rattle.drawing.proofs.Laws.{with-pressures, without-pressures}
 use Rattle.update.specs.Update.{noted}
 use Rattle.update.specs.declared.Stats.{Stats}
 use Rattle.drawn.specs.Drawn.{Draws, draws, changeOf, bent, nodeDrawn, nodesDrawn, drawnOf}
@@ -33,14 +35,14 @@ module _ (s : List ℕ) (l : Layout) (p : Pressures) (h : List Float) (factor : 
     unfolding nodeDrawn
     node-disabled t = rw (sym is-on ∙ not-true on t)
 
-    module _ (is-serving : serving ≡ inService s l i) (enabled-is : not on ≡ false) where
-      pub node-bends : (w₁ : Draws) → (serving && lt constant.zero (getD asked i nan)) ≡ true → w₁ ≡ bent s l p h factor asked i w → w₁ ≡ nodeDrawn s l p h factor asked i w
+    module _ (gives : Bool) (is-serving : serving ≡ inService s l i) (does : gives ≡ givesWay serving (getD asked i nan)) (enabled-is : not on ≡ false) where
+      pub node-bends : (w₁ : Draws) → gives ≡ true → w₁ ≡ bent s l p h factor asked i w → w₁ ≡ nodeDrawn s l p h factor asked i w
       unfolding nodeDrawn
-      node-bends w₁ t e = rw (sym is-on ∙ not-false on enabled-is, ← is-serving, t) e
+      node-bends w₁ t e = rw (sym is-on ∙ not-false on enabled-is, ← is-serving, ← does, t) e
 
-      pub node-copied : (serving && lt constant.zero (getD asked i nan)) ≡ false → draws (set (w .drawn) i (getD asked i nan)) (w .stats) ≡ nodeDrawn s l p h factor asked i w
+      pub node-copied : gives ≡ false → draws (set (w .drawn) i (getD asked i nan)) (w .stats) ≡ nodeDrawn s l p h factor asked i w
       unfolding nodeDrawn
-      node-copied t = rw (sym is-on ∙ not-false on enabled-is, ← is-serving, t)
+      node-copied t = rw (sym is-on ∙ not-false on enabled-is, ← is-serving, ← does, t)
 
   -- ---- all nodes: after i of them, with the column as it is and as it was
 
@@ -68,7 +70,7 @@ module _ (s : List ℕ) (l : Layout) (p : Pressures) (h : List Float) (factor : 
 
   node-long : (i : ℕ) (w : Draws) → length (nodeDrawn s l p h factor asked i w .drawn) ≡ length (w .drawn)
   unfolding nodeDrawn
-  node-long i w = go (enabled s l i) (inService s l i && lt constant.zero (getD asked i nan))
+  node-long i w = go (enabled s l i) (givesWay (inService s l i) (getD asked i nan))
     where
       go : (a b : Bool) → length (cond a (cond b (bent s l p h factor asked i w) (draws (set (w .drawn) i (getD asked i nan)) (w .stats))) w .drawn) ≡ length (w .drawn)
       go true true = bent-long i w
@@ -80,10 +82,23 @@ module _ (s : List ℕ) (l : Layout) (p : Pressures) (h : List Float) (factor : 
   nodes-long zero w = refl
   nodes-long (suc i) w = node-long i (nodesDrawn s l p h factor asked i w) ∙ nodes-long i w
 
-  pub drawn-whole : (i : ℕ) (w w₁ : Draws) → i ≡ l .nodes → w₁ ≡ nodesDrawn s l p h factor asked i w → w₁ ≡ drawnOf s l p h factor asked w
-  unfolding drawnOf
+  pub drawn-whole : (i : ℕ) (w w₁ : Draws) → i ≡ l .nodes → w₁ ≡ nodesDrawn s l p h factor asked i w → w₁ ≡ nodesDrawn s l p h factor asked (l .nodes) w
   drawn-whole i w w₁ e k = k ∙ ap (λ (n : ℕ). nodesDrawn s l p h factor asked n w) e
 
-  pub drawn-long : (w : Draws) → length (drawnOf s l p h factor asked w .drawn) ≡ length (w .drawn)
+module _ (s : List ℕ) (l : Layout) (h : List Float) (factor : Float) (asked : List Float) where
+  -- where a PD stands, and where none does
+  pub drawn-pressures : (p : Pressures) (w w₁ : Draws) → l .pressures ≡ true → p ≡ pressuresOf s → w₁ ≡ nodesDrawn s l p h factor asked (l .nodes) w → w₁ ≡ drawnOf s l h factor asked w
   unfolding drawnOf
-  drawn-long w = nodes-long (l .nodes) w
+  drawn-pressures p w w₁ t e k = k ∙ ap (λ (v : Pressures). nodesDrawn s l v h factor asked (l .nodes) w) e ∙ sym (with-pressures (l .pressures) _ w t)
+
+  pub drawn-none : (w : Draws) → l .pressures ≡ false → w ≡ drawnOf s l h factor asked w
+  unfolding drawnOf
+  drawn-none w t = sym (without-pressures (l .pressures) _ w t)
+
+  pub drawn-long : (w : Draws) → length (drawnOf s l h factor asked w .drawn) ≡ length (w .drawn)
+  unfolding drawnOf
+  drawn-long w = go (l .pressures)
+    where
+      go : (b : Bool) → length (cond b (nodesDrawn s l (pressuresOf s) h factor asked (l .nodes) w) w .drawn) ≡ length (w .drawn)
+      go true = nodes-long s l (pressuresOf s) h factor asked (l .nodes) w
+      go false = refl

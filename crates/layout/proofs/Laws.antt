@@ -10,9 +10,14 @@ use lib.ListN.{length}
 use Rattle.layout.specs.Places.{Laid, heading, nodePlace, linkPlace}
 use Rattle.layout.specs.declared.places.Layout.{Layout}
 
-at-least : (pressures : Bool) → 29 ≤ heading pressures
+-- the OP stands before the first node, and at most a PD besides
+pub at-least : (pressures : Bool) → 29 ≤ heading pressures
 at-least true = omega arith
 at-least false = omega arith
+
+pub at-most : (pressures : Bool) → heading pressures ≤ 47
+at-most true = omega arith
+at-most false = omega arith
 
 pub options-within : (l : Layout) (s : List ℕ) → Laid l s → 29 ≤ length s
 options-within l s laid = omega (arith, at-least (l .pressures), laid .options, laid .nodes)

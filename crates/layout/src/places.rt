@@ -1,10 +1,12 @@
 // Where the records of a sheet stand: one OP, a PD or none, then all ND, then all LK.
 ghost use mathlib.Core.Path.{_≡_};
 ghost use Prim.Native.Nat.{_^_, _<_};
-ghost use Rattle.layout.specs.Places.{nodePlace, linkPlace};
+ghost use Rattle.layout.specs.Places.{heading, nodePlace, linkPlace};
 
 // The sizes of the records in bytes, mark included.
 pub const OP_SIZE: usize = 29;
+
+pub const PD_SIZE: usize = 18;
 
 pub const ND_SIZE: usize = 45;
 
@@ -21,6 +23,16 @@ pub struct Layout {
     pub link0: usize,
     pub stride: usize,
     pub pressures: bool,
+}
+
+// How many bytes stand before the first node.
+pub fn heading(pressures: bool) -> usize
+    ensures { λ r. ⌜ r ≡ heading pressures ⌝ }
+{
+    if pressures {
+        return OP_SIZE + PD_SIZE;
+    }
+    OP_SIZE
 }
 
 // The byte offset of node i.

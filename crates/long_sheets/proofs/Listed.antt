@@ -18,5 +18,5 @@ pub refused-listed : (s : List ℕ) (r : Refusal) → readOf s ≡ Refused r →
 unfolding listingOf linesOf headLines resultsFor solveWith afterRead refusedOf failedOf recordLines lineOf
 refused-listed s r e = rw (e, append-nil, append-nil)
 
-pub long-listed : (s : List ℕ) → 9181 < length s → listingOf s ≡ lineOf (refusalOf (fedOf (Options 0) s))
+pub long-listed : (s : List ℕ) → 9199 < length s → listingOf s ≡ lineOf (refusalOf (fedOf (Options 0) s))
 long-listed s l = refused-listed s (refusalOf (fedOf (Options 0) s)) (long-refused s l)

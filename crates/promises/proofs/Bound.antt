@@ -26,6 +26,9 @@ use Rattle.columns.proofs.Laws.{zeros-long}
 use Rattle.state.proofs.Kept.{heads-long, demands-long, flows-long, codes-long, solved-long}
 use Rattle.update.specs.Update.{basis, updateOf}
 use Rattle.update.proofs.Kept.{update-flows-long, update-codes-long}
+use Rattle.tanks.specs.Tanks.{tankLinksOf}
+use Rattle.drawn.specs.Drawn.{draws}
+use Rattle.drawn.proofs.Laws.{drawn-long}
 use Rattle.tanks.proofs.Kept.{tank-demands-long, tank-codes-long}
 use Rattle.damping.specs.declared.steps.Damping.{Damping}
 use Rattle.entries.specs.declared.Entry.{Entry}
@@ -163,9 +166,11 @@ module _ (s : List ℕ) (l : Layout) (right : l .unknowns ≡ serving s l (l .no
       let h = solvedHeads s l x (l .nodes) (t .heads) in
       let u = updateOf s l (basis h g y (d .factor)) (t .flows) (t .statuses) in
       let p = basis h g y (d .factor) in
+      let w = tankLinksOf s l h (u .flows) (t .demands) (u .codes) in
       record {
         heads = omega (arith, m .heads, solved-long s l x (l .nodes) (t .heads));
         demands = omega (arith, m .demands, tank-demands-long s l h (u .flows) (t .demands) (u .codes));
+        drawn = omega (arith, m .drawn, drawn-long s l h (d .factor) (w .demands) (draws (t .drawn) (u .stats)));
         flows = omega (arith, m .flows, update-flows-long s l p (t .flows) (t .statuses));
         statuses = omega (arith, m .statuses, tank-codes-long s l h (u .flows) (t .demands) (u .codes), update-codes-long s l p (t .flows) (t .statuses));
         grounded = m .grounded;
@@ -174,8 +179,8 @@ module _ (s : List ℕ) (l : Layout) (right : l .unknowns ≡ serving s l (l .no
   pub trial-room : Room l (trialOf s l d t .state)
   trial-room =
       ways s l d t (λ o. Room l (o .state))
-      (λ j w. record { heads = m .heads; demands = m .demands; flows = m .flows; statuses = simp length-set (m .statuses); grounded = m .grounded })
-      (λ v w. record { heads = m .heads; demands = m .demands; flows = m .flows; statuses = m .statuses; grounded = simp length-set (m .grounded) })
+      (λ j w. record { heads = m .heads; demands = m .demands; drawn = m .drawn; flows = m .flows; statuses = simp length-set (m .statuses); grounded = m .grounded })
+      (λ v w. record { heads = m .heads; demands = m .demands; drawn = m .drawn; flows = m .flows; statuses = m .statuses; grounded = simp length-set (m .grounded) })
       (λ v w. m) step-room
 
 -- ---- a run
@@ -245,6 +250,7 @@ start-room s l e =
     record {
       heads = omega (arith, w .nodes, heads-long s l (l .nodes) (zeros 64), zeros-long 64);
       demands = omega (arith, w .nodes, demands-long s l (l .nodes) (zeros 64), zeros-long 64);
+      drawn = omega (arith, w .nodes, demands-long s l (l .nodes) (zeros 64), zeros-long 64);
       flows = omega (arith, w .links, flows-long s l (l .links) (zeros 128), zeros-long 128);
       statuses = omega (arith, w .links, codes-long s l (l .links) (replicate 128 0), length-replicate {A = ℕ} 128 0);
       grounded = omega (arith, w .nodes, length-replicate 64 false);

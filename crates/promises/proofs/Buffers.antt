@@ -5,7 +5,7 @@ use mathlib.Core.List.{List, _++_}
 use mathlib.Core.Logic.{⊎-elim}
 use native.Mathlib.Nat.{eq-or-lt-of-le, le-of-suc-le-suc}
 use native.Mathlib.Omega.{arith}
-use lib.ListN.{length, getD, take, drop, getD-replicate, List·getD-append}
+use lib.ListN.{length, getD, take, drop, length-append, getD-replicate, List·getD-append}
 use lib.Seq.{getD-set-same, getD-set-other, getD-append-add, getD-take, getD-drop, length-take-le}
 use lib.Ieee.{Float, nan, binary64, ofBits}
 use Rattle.constants.specs.Arithmetic.{plus}
@@ -14,6 +14,8 @@ use Rattle.refusals.specs.Refusals.{numberOf, placeOf}
 use Rattle.refusals.specs.declared.refusals.Refusal.{Refusal}
 use Rattle.refusals.specs.declared.refusals.Refusal.the-variants.{Unreadable, NodeCount, LinkCount, Field, Ends}
 use Rattle.layout.specs.declared.places.Layout.{Layout}
+use Rattle.drawing.specs.Drawing.{counting}
+use Rattle.drawing.proofs.Laws.{counting-long}
 use Rattle.columns.specs.Columns.{addTo, zeros, copied}
 use Rattle.columns.proofs.Laws.{zeros-long}
 use Rattle.state.specs.State.{State}
@@ -67,6 +69,11 @@ over n z from to h =
       first = λ i x. List·getD-append (take n from) (drop n to) z i (omega (arith, e)) ∙ getD-take n from i z x;
       later = λ i x. past n z (take n from) to e i x;
     }
+
+-- what was copied is there
+copied-room : {A : Type 0} (n : ℕ) (from to : List A) → n ≤ length from → n ≤ length (copied n from to)
+unfolding copied
+copied-room n from to h = omega (arith, length-append (take n from) (drop n to), length-take-le n from h)
 
 settled-later : (n : ℕ) (d : List Float) (i : ℕ) → n ≤ i → getD (settledOf n d) i nan ≡ getD d i nan
 unfolding settledOf addTo
@@ -162,11 +169,14 @@ balanced-delivers : (s : List ℕ) (l : Layout) (m : ℕ) (x : Lent) (t : State)
     → told s l m x t tally bytes z .answer .number ≡ 0 → Delivered s l t x (told s l m x t tally bytes z)
 unfolding told delivered unsolved failedOf
 balanced-delivers s l m x t tally bytes Balanced r e =
-    let d = over (l .nodes) nan (settledOf (l .nodes) (t .demands)) (x .demands) (omega (arith, settled-long (l .nodes) (t .demands), r .demands)) in
+    let k = counting (l .pressures) (t .drawn) (t .demands) in
+    let long : l .nodes ≤ length k = counting-long (l .nodes) (l .pressures) (t .drawn) (t .demands) (r .drawn) (r .demands) in
+    let d = over (l .nodes) nan k (x .demands) long in
+    let c = copied (l .nodes) k (x .demands) in
     record {
       heads = over (l .nodes) nan (t .heads) (x .heads) (r .heads);
-      demands = λ i h. d .first i h ∙ settled-at (l .nodes) (t .demands) (r .demands) i h;
-      demands-later = d .later;
+      demands = λ i h. settled-at (l .nodes) c (copied-room (l .nodes) k (x .demands) long) i h ∙ ap (λ (y : Float). plus y constant.zero) (d .first i h);
+      demands-later = λ i h. settled-later (l .nodes) c i h ∙ d .later i h;
       flows = over (l .links) nan (t .flows) (x .flows) (r .flows);
       statuses = over (l .links) 0 (t .statuses) (x .statuses) (r .statuses);
       demand = refl;

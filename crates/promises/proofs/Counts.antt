@@ -283,33 +283,30 @@ module _ (s : List ℕ) (x : Lent) (l : Layout) (w : Runs s x l) (i : ℕ) (h : 
   pub gn-grounded : marked 71 78 (solveOf s x .lent .entries) i ≡ true → (v : NodeIndex) × (getD (runIn s l .entries) i Converged ≡ Grounded v)
   gn-grounded e = gn (getD (runIn s l .entries) i Converged) (sym (shows (solveOf s x .lent .entries) i (getD (runIn s l .entries) i Converged) (shown s x l w i h) 71 78) ∙ e)
 
--- ---- the two bytes hold the number: it is below 192
+-- ---- the two bytes hold the number: it is below 320
 
-judged-small : (o : Options) (d : Damping) (m : Stats) → markOf (judged o d m) .2 < 192
+judged-small : (o : Options) (d : Damping) (m : Stats) → markOf (judged o d m) .2 < 320
 unfolding judged markOf
 judged-small o d m = go (convergedOf (relativeChange (m .moved) (m .total) (o .accuracy)) (o .accuracy) (m .changed) (m .largest) (o .unit) (o .change)) _
   where
-    go : (b : Bool) (x : Damping) → markOf (cond b Converged (Stepped x)) .2 < 192
+    go : (b : Bool) (x : Damping) → markOf (cond b Converged (Stepped x)) .2 < 320
     go true x = omega arith
     go false x = omega arith
 
-verdict-small : (f : Found) (o : Options) (d : Damping) (m : Stats) → ((p : ℕ) → f ≡ At p → p < 192) → markOf (verdict f o d m) .2 < 192
+verdict-small : (f : Found) (o : Options) (d : Damping) (m : Stats) → ((p : ℕ) → f ≡ At p → p < 320) → markOf (verdict f o d m) .2 < 320
 unfolding verdict markOf
 verdict-small (At p) o d m h = h p refl
 verdict-small Nothing o d m h = judged-small o d m
 
 module _ (s : List ℕ) (l : Layout) (d : Damping) (t : State) (net : Network l s) where
-  step-small : (g y x : List Float) → markOf (stepOf s l d t g y x .entry) .2 < 192
-  unfolding stepOf
+  step-small : (g y x : List Float) → markOf (stepOf s l d t g y x .entry) .2 < 320
   step-small g y x =
-      let a = solvedHeads s l x (l .nodes) (t .heads) in
-      let u = updateOf s l (basis a g y (d .factor)) (t .flows) (t .statuses) in
-      verdict-small (wildPlace (l .nodes) (l .links) a (u .flows)) (optionsOf s) d (u .stats) (λ p e. omega (arith, wild-below (l .nodes) (l .links) a (u .flows) p (net .nodes) e, net .links))
+      repairs.step-entry s l d t g y x (λ e. markOf e .2 < 320) (λ h q f m. verdict-small (wildPlace l h q f) (optionsOf s) d m (λ p e. wild-below l h q f p (net .nodes) (net .links) e))
 
-  trial-small : markOf (trialOf s l d t .entry) .2 < 192
+  trial-small : markOf (trialOf s l d t .entry) .2 < 320
   unfolding markOf
   trial-small =
-      repairs.ways s l d t (λ o. markOf (o .entry) .2 < 192)
+      repairs.ways s l d t (λ o. markOf (o .entry) .2 < 320)
       (λ j w. omega (arith, w .lowest .one, net .links)) (λ v w. omega (arith, stop-node s l (net .unknowns) t v (w .stops) .0, net .nodes))
       (λ v w. omega (arith, stop-node s l (net .unknowns) t v (w .stops) .0, net .nodes)) step-small
 

@@ -6,7 +6,9 @@ use Rattle.linear.specs.Factorization.{factorOf}
 use Rattle.columns.specs.Columns.{cleared, zeros}
 use Rattle.columns.proofs.Laws.{cleared-zeros, zeros-long}
 use Rattle.excess.specs.Excess.{excessOf}
-use Rattle.assembly.specs.Assembly.{System, system, view, withLinks, demandsTaken, groundedOf, assembleOf}
+use Rattle.assembly.specs.Assembly.{System, system, view, withLinks, rightOf, groundedOf, assembleOf}
+use Rattle.drawing.specs.Drawing.{counting}
+use Rattle.bends.specs.Bends.{bentMatrix}
 use Rattle.state.specs.State.{State}
 use Rattle.damping.specs.declared.steps.Damping.{Damping}
 use Rattle.entries.specs.declared.Entry.{Entry}
@@ -27,9 +29,9 @@ use Rattle.solver.specs.Solve.{trialsOf, startOf, runOf, solvedWith, afterShort
 
 unfoldable pub quickSystem : List ℕ → Layout → State → System
 quickSystem s l t =
-    let e = excessOf s l (t .demands) (t .flows) (zeros 64) in
+    let e = excessOf s l (counting (l .pressures) (t .drawn) (t .demands)) (t .flows) (zeros 64) in
     let links = withLinks s l (view (t .heads) (t .flows) (t .statuses) e) (l .links) (system (zeros 4096) (zeros 64) (zeros 128) (zeros 128)) in
-    system (groundedOf s l (t .grounded) (l .nodes) (links .matrix)) (demandsTaken s l (t .demands) (l .nodes) (links .rhs)) (links .g) (links .y)
+    system (groundedOf s l (t .grounded) (l .nodes) (bentMatrix s l (t .demands) (t .drawn) (links .matrix))) (rightOf s l (t .demands) (t .drawn) (links .rhs)) (links .g) (links .y)
 
 pub quick-system : (s : List ℕ) (l : Layout) (t : State) → systemOf s l t ≡ quickSystem s l t
 unfolding systemOf assembleOf quickSystem

@@ -25,10 +25,13 @@ use Rattle.damping.specs.Damping.{convergedOf, relativeChange}
 use Rattle.links.specs.Links.{regulator}
 use Rattle.assembly.specs.Assembly.{System}
 use Rattle.state.specs.State.{State, solvedHeads}
+use Rattle.tanks.specs.Tanks.{tankLinksOf}
+use Rattle.drawn.specs.Drawn.{draws, drawnOf}
 use Rattle.wild.specs.Wild.{wildPlace}
 use Rattle.update.specs.Update.{basis, updateOf}
 use Rattle.update.specs.declared.Stats.{Stats}
 use Rattle.repair.specs.Repair.{touches, regulatesAt, regulatorFrom, regulatorAt}
+use Rattle.entries.specs.declared.Entry.{Entry}
 use Rattle.entries.specs.declared.Entry.the-variants.{Freed, Grounded, Singular, Stepped, Converged}
 use Rattle.damping.specs.declared.steps.Damping.{Damping}
 use Rattle.links.specs.declared.LinkIndex.{LinkIndex}
@@ -117,13 +120,18 @@ verdict-steps (At p) o d m = refl
 verdict-steps Nothing o d m = judged-steps o d m
 
 module _ (s : List ℕ) (l : Layout) (d : Damping) (t : State) where
-  -- a step is no failure
-  pub step-holds : (g y x : List Float) → fails (stepOf s l d t g y x .entry) ≡ false
+  -- what a step comes to is its verdict: whatever holds of every verdict holds of it
+  pub step-entry : (g y x : List Float) (P : Entry → Type 0) → ((h q f : List Float) (m : Stats) → P (verdict (wildPlace l h q f) (optionsOf s) d m)) → P (stepOf s l d t g y x .entry)
   unfolding stepOf
-  step-holds g y x =
+  step-entry g y x P each =
       let h = solvedHeads s l x (l .nodes) (t .heads) in
       let u = updateOf s l (basis h g y (d .factor)) (t .flows) (t .statuses) in
-      verdict-steps (wildPlace (l .nodes) (l .links) h (u .flows)) (optionsOf s) d (u .stats)
+      let f = drawnOf s l h (d .factor) (tankLinksOf s l h (u .flows) (t .demands) (u .codes) .demands) (draws (t .drawn) (u .stats)) in
+      each h (u .flows) (f .drawn) (f .stats)
+
+  -- a step is no failure
+  pub step-holds : (g y x : List Float) → fails (stepOf s l d t g y x .entry) ≡ false
+  step-holds g y x = step-entry g y x (λ e. fails e ≡ false) (λ h q f m. verdict-steps (wildPlace l h q f) (optionsOf s) d m)
 
   stopped : (v : ℕ) (a : System) (z : List Float) (f : Factored) → stopNode s l f ≡ At v → factored repairOf s l d t a z f ≡ repairOf s l t v
   unfolding factored stopNode

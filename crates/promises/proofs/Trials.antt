@@ -31,7 +31,7 @@ use Rattle.runs.specs.Run.{thenRun, runWith}
 use Rattle.solver.specs.Solve.{trialsOf}
 use Rattle.promises.specs.Trials.{Point, point, trialAt, runAt, dampingAfter, next, afterTrials, startPoint, runIn, pointIn}
 use Rattle.promises.proofs.Never.{other}
-use Rattle.promises.proofs.Repairs.{ways}
+use Rattle.promises.proofs.Repairs.{step-entry, ways}
 
 pub unmoved : (s : List ℕ) (l : Layout) (p : Point) → afterTrials s l 0 p ≡ p
 unfolding afterTrials
@@ -112,11 +112,7 @@ verdict-in Nothing o d m r = judged-in o d m r
 
 module _ (s : List ℕ) (l : Layout) where
   step-in : (d : Damping) (t : State) → InRange (d .factor) → (g y x : List Float) → InRange (dampingAfter d (stepOf s l d t g y x .entry) .factor)
-  unfolding stepOf
-  step-in d t r g y x =
-      let h = solvedHeads s l x (l .nodes) (t .heads) in
-      let u = updateOf s l (basis h g y (d .factor)) (t .flows) (t .statuses) in
-      verdict-in (wildPlace (l .nodes) (l .links) h (u .flows)) (optionsOf s) d (u .stats) r
+  step-in d t r g y x = step-entry s l d t g y x (λ e. InRange (dampingAfter d e .factor)) (λ h q f m. verdict-in (wildPlace l h q f) (optionsOf s) d m r)
 
   -- A trial keeps the damping factor from 0.25 to 1.
   pub kept-in-range : (p : Point) → InRange (p .damping .factor) → InRange (next s l p .damping .factor)

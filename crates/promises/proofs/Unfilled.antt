@@ -1,4 +1,4 @@
--- Item 6: entries of the assembled matrix that no link fills, and no grounded diagonal, are +0.0. Assumes nothing.
+-- Item 6: entries of the assembled matrix that no link fills, no grounded diagonal, and no demand that gives way, are +0.0. Assumes nothing.
 use Prim.Native.Nat.{ℕ, zero, suc, _+_, _*_, _≤_, _<_}
 use mathlib.Core.Path.{_≡_, refl, sym, _∙_}
 use mathlib.Core.Bool.{Bool, true, false, cond, _&&_}
@@ -6,7 +6,7 @@ use mathlib.Core.List.{List}
 use native.Mathlib.Omega.{arith}
 use lib.ListN.{length, getD}
 use lib.Seq.{getD-set-other}
-use lib.Ieee.{Float, nan, binary64, ofBits, add, sub}
+use lib.Ieee.{Float, nan, binary64, ofBits, add, sub, lt}
 use Rattle.layout.specs.declared.places.Layout.{Layout}
 use Rattle.links.specs.Links.{linkOf}
 use Rattle.records.specs.declared.records.Link.{Link}
@@ -21,6 +21,13 @@ use Rattle.numbering.specs.declared.Row.{Row}
 use Rattle.numbering.specs.declared.Row.the-variants.{Unknown, Fixed}
 use Rattle.scatter.specs.Scatter.{onDiagonal, lower, offBetween, givenDiagonal, linkMatrix}
 use Rattle.assembly.specs.Assembly.{System, system, View, coefficientsAt, linkPlaced, linkAdded, withLinks, groundOf, groundedOf, assembleOf}
+use Rattle.records.specs.Records.{pressuresOf}
+use Rattle.records.specs.declared.records.Pressures.{Pressures}
+use Rattle.constants.specs.Arithmetic.{over}
+use Rattle.constants.specs.Constants as constant
+use Rattle.drawing.specs.Drawing.{rangeOf, bendOf}
+use Rattle.drawing.specs.declared.Bend.{Bend}
+use Rattle.bends.specs.Bends.{bends, bendDiagonal, nodeDiagonal, diagonalBends, bentMatrix}
 use Rattle.promises.specs.Unfilled.{OffDiagonal, Apart, Unfilled}
 
 module _ (p : ℕ) where
@@ -78,10 +85,42 @@ module _ (p : ℕ) where
       on true e = diagonal-apart (rowAt s l n) smallValue was (h n (omega arith) e)
       on false e = refl
 
+  -- the bends, where a PD stands
+  bend-apart : (b : Bend) (row : Row) (m : List Float) → OffDiagonal row p → getD (bendDiagonal b row m) p nan ≡ getD m p nan
+  unfolding bendDiagonal
+  bend-apart b row m d = either (lt constant.zero (over constant.one (b .conductance))) (onDiagonal row (b .conductance) m) m (diagonal-apart row (b .conductance) m d)
+
+  bends-apart : (s : List ℕ) (l : Layout) (r : Pressures) (demands drawn m : List Float) (n : ℕ) → ((i : ℕ) → i < n → bends s l demands i ≡ true → OffDiagonal (rowAt s l i) p)
+      → getD (diagonalBends s l r demands drawn n m) p nan ≡ getD m p nan
+  unfolding diagonalBends nodeDiagonal
+  bends-apart s l r demands drawn m zero h = refl
+  bends-apart s l r demands drawn m (suc n) h = on (bends s l demands n) refl ∙ bends-apart s l r demands drawn m n (λ i z. h i (omega arith))
+    where
+      was : List Float
+      was = diagonalBends s l r demands drawn n m
+
+      bend : Bend
+      bend = bendOf (getD drawn n nan) (getD demands n nan) (rangeOf r)
+
+      on : (b : Bool) → bends s l demands n ≡ b → getD (cond b (bendDiagonal bend (rowAt s l n) was) was) p nan ≡ getD was p nan
+      on true e = bend-apart bend (rowAt s l n) was (h n (omega arith) e)
+      on false e = refl
+
+  bent-apart : (s : List ℕ) (l : Layout) (demands drawn m : List Float) → (l .pressures ≡ true → (i : ℕ) → i < l .nodes → bends s l demands i ≡ true → OffDiagonal (rowAt s l i) p)
+      → getD (bentMatrix s l demands drawn m) p nan ≡ getD m p nan
+  unfolding bentMatrix
+  bent-apart s l demands drawn m h = on (l .pressures) refl
+    where
+      on : (b : Bool) → l .pressures ≡ b → getD (cond b (diagonalBends s l (pressuresOf s) demands drawn (l .nodes) m) m) p nan ≡ getD m p nan
+      on true e = bends-apart s l (pressuresOf s) demands drawn m (l .nodes) (h e)
+      on false e = refl
+
 -- "entries that no link fills are +0.0", whatever was lent
-pub unfilled : (s : List ℕ) (l : Layout) (v : View) (demands : List Float) (marks : List Bool) (t : System) (p : ℕ)
-    → length (t .matrix) ≡ 4096 → p < 4096 → Unfilled s l marks p → getD (assembleOf s l v demands marks t .matrix) p nan ≡ ofBits binary64 0
+pub unfilled : (s : List ℕ) (l : Layout) (v : View) (demands drawn : List Float) (marks : List Bool) (t : System) (p : ℕ)
+    → length (t .matrix) ≡ 4096 → p < 4096 → Unfilled s l demands marks p → getD (assembleOf s l v demands drawn marks t .matrix) p nan ≡ ofBits binary64 0
 unfolding assembleOf
-unfilled s l v demands marks t p long here a =
+unfilled s l v demands drawn marks t p long here a =
     let w : System = system (cleared 4096 (t .matrix)) (cleared 64 (t .rhs)) (t .g) (t .y) in
-    grounded-apart p s l marks (withLinks s l v (l .links) w .matrix) (l .nodes) (a .nodes) ∙ links-apart p s l v w (l .links) (a .links) ∙ cleared-at 4096 (t .matrix) (omega arith) p here
+    grounded-apart p s l marks (bentMatrix s l demands drawn (withLinks s l v (l .links) w .matrix)) (l .nodes) (a .nodes)
+    ∙ bent-apart p s l demands drawn (withLinks s l v (l .links) w .matrix) (a .giving)
+    ∙ links-apart p s l v w (l .links) (a .links) ∙ cleared-at 4096 (t .matrix) (omega arith) p here

@@ -8,6 +8,7 @@ use Rattle.constants.specs.Arithmetic.{plus}
 use Rattle.constants.specs.Constants as constant
 use Rattle.layout.specs.declared.places.Layout.{Layout}
 use Rattle.state.specs.State.{State}
+use Rattle.drawing.specs.Drawing.{counting}
 use Rattle.balance.specs.Balance.{balanceOf}
 use Rattle.answers.specs.Answers.{Lent, Solved}
 
@@ -46,10 +47,11 @@ pub record Over {A : Type 0} (n : ℕ) (z : A) (from to column : List A) : Type 
   pub first : (i : ℕ) → i < n → getD column i z ≡ getD from i z
   pub later : (i : ℕ) → n ≤ i → getD column i z ≡ getD to i z
 
--- the results are those of a state, one entry a node or a link, over what was lent; each demand gained +0.0; the totals are the state's balance
+-- the results are those of a state, one entry a node or a link, over what was lent; each demand that counts, drawn where a PD stands, gained +0.0; the totals are the state's
+-- balance, by what is asked
 pub record Delivered (s : List ℕ) (l : Layout) (t : State) (b : Lent) (o : Solved) : Type 0 where
   pub heads : Over (l .nodes) nan (t .heads) (b .heads) (o .lent .heads)
-  pub demands : (i : ℕ) → i < l .nodes → getD (o .lent .demands) i nan ≡ plus (getD (t .demands) i nan) constant.zero
+  pub demands : (i : ℕ) → i < l .nodes → getD (o .lent .demands) i nan ≡ plus (getD (counting (l .pressures) (t .drawn) (t .demands)) i nan) constant.zero
   pub demands-later : (i : ℕ) → l .nodes ≤ i → getD (o .lent .demands) i nan ≡ getD (b .demands) i nan
   pub flows : Over (l .links) nan (t .flows) (b .flows) (o .lent .flows)
   pub statuses : Over (l .links) 0 (t .statuses) (b .statuses) (o .lent .statuses)

@@ -57,10 +57,10 @@ pub record Refuses (s : List ℕ) (l : Layout) (t : State) (node : ℕ) : Type 0
 
 -- a state with link j freed (XPressure, 6), and one with a node grounded
 abbrev pub freedIn : State → ℕ → State
-freedIn t j = state (t .heads) (t .demands) (t .flows) (set (t .statuses) j 6) (t .grounded)
+freedIn t j = state (t .heads) (t .demands) (t .drawn) (t .flows) (set (t .statuses) j 6) (t .grounded)
 
 abbrev pub groundedIn : State → ℕ → State
-groundedIn t node = state (t .heads) (t .demands) (t .flows) (t .statuses) (set (t .grounded) node true)
+groundedIn t node = state (t .heads) (t .demands) (t .drawn) (t .flows) (t .statuses) (set (t .grounded) node true)
 
 -- VF and GN: something was repaired
 unfoldable pub mends : Entry → Bool

@@ -27,6 +27,7 @@ use Rattle.runs.specs.Run.{thenRun, runWith, finish}
 pub record Kept (t₀ t : State) (r₀ r : List ℕ) (x₀ x : List Float) : Type 0 where
   pub heads : length (t .heads) ≡ length (t₀ .heads)
   pub demands : length (t .demands) ≡ length (t₀ .demands)
+  pub drawn : length (t .drawn) ≡ length (t₀ .drawn)
   pub flows : length (t .flows) ≡ length (t₀ .flows)
   pub statuses : length (t .statuses) ≡ length (t₀ .statuses)
   pub grounded : length (t .grounded) ≡ length (t₀ .grounded)
@@ -34,10 +35,10 @@ pub record Kept (t₀ t : State) (r₀ r : List ℕ) (x₀ x : List Float) : Typ
   pub scratch : length x ≡ length x₀
 
 pub kept-start : (t : State) (r : List ℕ) (x : List Float) → Kept t t r r x x
-kept-start t r x = record { heads = refl; demands = refl; flows = refl; statuses = refl; grounded = refl; entries = refl; scratch = refl }
+kept-start t r x = record { heads = refl; demands = refl; drawn = refl; flows = refl; statuses = refl; grounded = refl; entries = refl; scratch = refl }
 
 pub kept-room : (l : Layout) (t₀ t : State) (r₀ r : List ℕ) (x₀ x : List Float) → Kept t₀ t r₀ r x₀ x → Room l t₀ → Room l t
-kept-room l t₀ t r₀ r x₀ x c m = record { heads = omega arith; demands = omega arith; flows = omega arith; statuses = omega arith; grounded = omega arith }
+kept-room l t₀ t r₀ r x₀ x c m = record { heads = omega arith; demands = omega arith; drawn = omega arith; flows = omega arith; statuses = omega arith; grounded = omega arith }
 
 -- one more is counted
 pub record Counts (t u : Tally) : Type 0 where

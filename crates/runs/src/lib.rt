@@ -34,6 +34,7 @@ pub fn run_trials(
     table: &[u64; 1153],
     heads: &mut [f64],
     demands: &mut [f64],
+    drawn: &mut [f64],
     flows: &mut [f64],
     statuses: &mut [u8],
     grounded: &mut [bool],
@@ -43,9 +44,9 @@ pub fn run_trials(
     requires { ⌜ Network l (now sheet) ⌝ }
     requires { ⌜ (l .nodes ≤ length (now unknowns)) × (RowsRight l (now sheet) (now unknowns)) ⌝ }
     requires { ⌜ now table ≡ powerTable ⌝ }
-    requires { ⌜ Room l (state (now heads) (now demands) (now flows) (now statuses) (now grounded)) ⌝ }
+    requires { ⌜ Room l (state (now heads) (now demands) (now drawn) (now flows) (now statuses) (now grounded)) ⌝ }
     requires { ⌜ (trials ≤ 65535) × ((4 * trials ≤ length (now entries)) × (length (now scratch) ≡ 4096)) ⌝ }
-    ensures state { λ r. ⌜ record { ran = r; bytes = now (entries .exit); state = state (now (heads .exit)) (now (demands .exit)) (now (flows .exit)) (now (statuses .exit)) (now (grounded .exit)) } ≡ finish 0 none (now (entries .entry)) (runWith repairOf (now (sheet .entry)) l trials dampingStart (state (now (heads .entry)) (now (demands .entry)) (now (flows .entry)) (now (statuses .entry)) (now (grounded .entry)))) ⌝ }
+    ensures state { λ r. ⌜ record { ran = r; bytes = now (entries .exit); state = state (now (heads .exit)) (now (demands .exit)) (now (drawn .exit)) (now (flows .exit)) (now (statuses .exit)) (now (grounded .exit)) } ≡ finish 0 none (now (entries .entry)) (runWith repairOf (now (sheet .entry)) l trials dampingStart (state (now (heads .entry)) (now (demands .entry)) (now (drawn .entry)) (now (flows .entry)) (now (statuses .entry)) (now (grounded .entry)))) ⌝ }
     ensures cleared { λ r. ⌜ now (scratch .exit) ≡ zeros 4096 ⌝ }
 {
     let mut d = damping_start();
@@ -64,6 +65,7 @@ pub fn run_trials(
             d,
             heads,
             demands,
+            drawn,
             flows,
             statuses,
             grounded,

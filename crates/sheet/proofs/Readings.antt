@@ -7,15 +7,15 @@ use native.Mathlib.Omega.{arith}
 use lib.Dec.{leb, ltb}
 use lib.ListN.{length}
 use borrow.Author.Tests.{le-leb, lt-leb, eq-eqb, ne-eqb, ltb-true}
-use Rattle.layout.specs.Places.{Laid, nodePlace, linkPlace}
+use Rattle.layout.specs.Places.{Laid, heading, nodePlace, linkPlace}
 use Rattle.layout.specs.declared.places.Layout.{Layout}
 use Rattle.found.specs.Searches.{orElse}
 use Rattle.links.specs.Links.{EndsIn, linkStart, linkEnd}
-use Rattle.sheet.specs.Scan.{hasOptions, nodesOf, linksOf, layoutOf, endOf, readable, recordsFrom}
+use Rattle.sheet.specs.Scan.{hasOptions, hasPressures, nodesAt, nodesOf, linksOf, layoutOf, endOf, readable, recordsFrom}
 use Rattle.records.specs.Records.{byteAt, pairAt}
-use Rattle.fields.specs.Fields.{optionsGood, nodeGood, linkCodes, linkNumbers, linkGood}
+use Rattle.fields.specs.Fields.{optionsGood, pressuresGood, nodeGood, linkCodes, linkNumbers, linkGood}
 use Rattle.ends.specs.Ends.{endsGood}
-use Rattle.sheet.specs.Read.{badNode, badLink, badField, badEnds, withUnknowns, checked, afterScan, readWith}
+use Rattle.sheet.specs.Read.{badNode, badLink, pressuresFine, badField, badEnds, withUnknowns, checked, afterScan, readWith}
 use Rattle.fields.specs.declared.fields.Bounds.{Bounds}
 use Rattle.found.specs.declared.Found.{Found}
 use Rattle.found.specs.declared.Found.the-variants.{At, Nothing}
@@ -30,27 +30,51 @@ linkGood-is b n s at = refl
 module _ (b : Bounds) (l : Layout) (s : List ℕ) where
   -- ---- refusal 3
 
+  pub fine-none : l .pressures ≡ false → true ≡ pressuresFine b l s
+  unfolding pressuresFine
+  fine-none h = rw h
+
+  pub fine-some : l .pressures ≡ true → pressuresGood b s ≡ pressuresFine b l s
+  unfolding pressuresFine
+  fine-some h = rw h
+
+  -- a PD that is good where there is one is fine
+  pub fine-where : (l .pressures ≡ true → pressuresGood b s ≡ true) → pressuresFine b l s ≡ true
+  fine-where h = go (l .pressures) refl
+    where
+      go : (p : Bool) → l .pressures ≡ p → pressuresFine b l s ≡ true
+      go true e = sym (fine-some e) ∙ h e
+      go false e = sym (fine-none e)
+
   pub field-options : optionsGood b s ≡ false → badField b l s ≡ At 0
   unfolding badField
   field-options h = rw h
 
-  pub field-node : (p : ℕ) → optionsGood b s ≡ true → badNode b l s ≡ At p → badField b l s ≡ At p
-  unfolding badField
-  field-node p h e = rw (h, e)
+  module _ (options : optionsGood b s ≡ true) where
+    pub field-pressures : pressuresFine b l s ≡ false → badField b l s ≡ At 29
+    unfolding badField
+    field-pressures h = rw (options, h)
 
-  pub field-link : optionsGood b s ≡ true → badNode b l s ≡ Nothing → badField b l s ≡ badLink b l s
-  unfolding badField
-  field-link h e = rw (h, e)
+    module _ (pressures : pressuresFine b l s ≡ true) where
+      pub field-node : (p : ℕ) → badNode b l s ≡ At p → badField b l s ≡ At p
+      unfolding badField
+      field-node p e = rw (options, pressures, e)
 
-  -- where no field is out of bounds, the options are good, and every node and link
-  pub no-field : badField b l s ≡ Nothing → (optionsGood b s ≡ true) × (badNode b l s ≡ Nothing) × (badLink b l s ≡ Nothing)
+      pub field-link : badNode b l s ≡ Nothing → badField b l s ≡ badLink b l s
+      unfolding badField
+      field-link e = rw (options, pressures, e)
+
+  -- where no field is out of bounds, the options are good, the PD is fine, and every node and link is good
+  pub no-field : badField b l s ≡ Nothing → (optionsGood b s ≡ true) × (pressuresFine b l s ≡ true) × (badNode b l s ≡ Nothing) × (badLink b l s ≡ Nothing)
   unfolding badField
-  no-field e = go (optionsGood b s) refl (badNode b l s) refl e
+  no-field e = go (optionsGood b s) refl (pressuresFine b l s) refl (badNode b l s) refl e
     where
-      go : (o : Bool) → optionsGood b s ≡ o → (f : Found) → badNode b l s ≡ f → cond o (orElse f (badLink b l s)) (At 0) ≡ Nothing → (optionsGood b s ≡ true) × (badNode b l s ≡ Nothing) × (badLink b l s ≡ Nothing)
-      go false p f q h = absurd (let z : _≡_ {A = ℕ} 0 1 = cc in omega arith)
-      go true p (At x) q h = absurd (let z : _≡_ {A = ℕ} 0 1 = cc in omega arith)
-      go true p Nothing q h = (p, q, h)
+      go : (o : Bool) → optionsGood b s ≡ o → (d : Bool) → pressuresFine b l s ≡ d → (f : Found) → badNode b l s ≡ f → cond o (cond d (orElse f (badLink b l s)) (At 29)) (At 0) ≡ Nothing
+          → (optionsGood b s ≡ true) × (pressuresFine b l s ≡ true) × (badNode b l s ≡ Nothing) × (badLink b l s ≡ Nothing)
+      go false p d r f q h = absurd (let z : _≡_ {A = ℕ} 0 1 = cc in omega arith)
+      go true p false r f q h = absurd (let z : _≡_ {A = ℕ} 0 1 = cc in omega arith)
+      go true p true r (At x) q h = absurd (let z : _≡_ {A = ℕ} 0 1 = cc in omega arith)
+      go true p true r Nothing q h = (p, r, q, h)
 
   -- ---- refusals 3 and 4
 
@@ -129,25 +153,27 @@ module _ (b : Bounds) (s : List ℕ) where
   unfolding readWith
   whole h l = rw (h, eq-eqb (endOf s) (length s) l)
 
--- ---- the layout: so many ND from 29 on, so many LK behind them
+-- ---- the layout: a PD from 29 on or none, so many ND behind it, so many LK behind them
 
-pub nodes-inside : (s : List ℕ) (n : ℕ) → 29 ≤ length s → n ≡ recordsFrom 78 68 45 (length s) s 29 → 29 + 45 * n ≤ length s
-nodes-inside s n h e = omega (arith, run-fits 78 68 45 (length s) s 29 h)
+-- what stands before the first node is in the sheet
+pub heading-inside : (s : List ℕ) (flag : Bool) → 29 ≤ length s → flag ≡ readable 80 68 18 s 29 → heading flag ≤ length s
+heading-inside s true h e = omega (arith, fits 80 68 18 s 29 (sym e))
+heading-inside s false h e = h
 
-pub layout-of : (s : List ℕ) (n at k : ℕ) → n ≡ recordsFrom 78 68 45 (length s) s 29 → at ≡ 29 + 45 * n → k ≡ recordsFrom 76 75 49 (length s) s at
-    → _≡_ {A = Layout} (record { nodes = n; links = k; unknowns = 0; node0 = 29; link0 = at; stride = 49; pressures = false }) (layoutOf s)
-unfolding layoutOf nodesOf linksOf
-layout-of s n at k en ea ek = rw (ek, ea, en)
+pub run-inside : (s : List ℕ) (first second size at n : ℕ) → at ≤ length s → n ≡ recordsFrom first second size (length s) s at → at + size * n ≤ length s
+run-inside s first second size at n h e = rw e (run-fits first second size (length s) s at h)
+
+pub layout-of : (s : List ℕ) (flag : Bool) (start n at k : ℕ) → flag ≡ readable 80 68 18 s 29 → start ≡ heading flag → n ≡ recordsFrom 78 68 45 (length s) s start → at ≡ start + 45 * n → k ≡ recordsFrom 76 75 49 (length s) s at
+    → _≡_ {A = Layout} (record { nodes = n; links = k; unknowns = 0; node0 = start; link0 = at; stride = 49; pressures = flag }) (layoutOf s)
+unfolding layoutOf nodesOf linksOf nodesAt hasPressures
+layout-of s flag start n at k ef es en ea ek = rw (ek, ea, en, es, ef)
 
 pub laid-of : (s : List ℕ) → 29 ≤ length s → Laid (layoutOf s) s
-unfolding layoutOf nodesOf linksOf linkPlace
+unfolding layoutOf nodesOf linksOf nodesAt hasPressures linkPlace
 laid-of s h =
-    record {
-      options = omega arith;
-      nodes = nodes-inside s _ h refl;
-      links = omega (arith, run-fits 76 75 49 (length s) s (29 + 45 * recordsFrom 78 68 45 (length s) s 29) (nodes-inside s _ h refl));
-      stride = omega arith;
-    }
+    let start = heading (readable 80 68 18 s 29) in
+    let behind = run-inside s 78 68 45 start _ (heading-inside s _ h refl) refl in
+    record { options = omega arith; nodes = behind; links = run-inside s 76 75 49 _ _ behind refl; stride = omega arith }
 
 pub options-are : (s : List ℕ) (flag : Bool) → flag ≡ readable 79 80 29 s 0 → hasOptions s ≡ flag
 unfolding hasOptions

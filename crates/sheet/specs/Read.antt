@@ -1,6 +1,6 @@
 -- Refusals 1 to 4, in document 01's order: each is tested over the whole sheet before the next. Definitions only.
 use Prim.Native.Nat.{ℕ, zero, suc, _+_}
-use mathlib.Core.Bool.{Bool, cond, _&&_}
+use mathlib.Core.Bool.{Bool, true, cond, _&&_}
 use mathlib.Core.List.{List}
 use lib.Dec.{eqb, leb}
 use lib.ListN.{length}
@@ -10,7 +10,7 @@ use Rattle.found.specs.declared.Found.{Found}
 use Rattle.found.specs.declared.Found.the-variants.{At, Nothing}
 use Rattle.nodes.specs.Nodes.{serving}
 use Rattle.sheet.specs.Scan.{hasOptions, layoutOf, endOf}
-use Rattle.fields.specs.Fields.{baseBounds, optionsGood, nodeGood, linkGood}
+use Rattle.fields.specs.Fields.{baseBounds, optionsGood, pressuresGood, nodeGood, linkGood}
 use Rattle.ends.specs.Ends.{endsGood}
 use Rattle.fields.specs.declared.fields.Bounds.{Bounds}
 use Rattle.refusals.specs.declared.refusals.Refusal.{Refusal}
@@ -28,7 +28,7 @@ unfoldable pub badEnds : Layout → List ℕ → Found
 unfolding firstBad
 badEnds l s = firstBad (endsGood l s) (l .stride) (l .links) (l .link0)
 
--- the first node, the first link, the first record that has a field outside its bounds
+-- the first link, the first node that has a field outside its bounds
 unfoldable pub badLink : Bounds → Layout → List ℕ → Found
 unfolding firstBad
 badLink b l s = firstBad (linkGood b (l .nodes) s) (l .stride) (l .links) (l .link0)
@@ -37,9 +37,14 @@ unfoldable pub badNode : Bounds → Layout → List ℕ → Found
 unfolding firstBad
 badNode b l s = firstBad (nodeGood b s) 45 (l .nodes) (l .node0)
 
+-- no PD, or one within its bounds
+unfoldable pub pressuresFine : Bounds → Layout → List ℕ → Bool
+pressuresFine b l s = cond (l .pressures) (pressuresGood b s) true
+
+-- the first record that has one: OP, PD, nodes, links
 unfoldable pub badField : Bounds → Layout → List ℕ → Found
-unfolding badLink badNode
-badField b l s = cond (optionsGood b s) (orElse (badNode b l s) (badLink b l s)) (At 0)
+unfolding badLink badNode pressuresFine
+badField b l s = cond (optionsGood b s) (cond (pressuresFine b l s) (orElse (badNode b l s) (badLink b l s)) (At 29)) (At 0)
 
 -- what a search for faults leads to
 abbrev pub unless : Found → (ℕ → Refusal) → Reading → Reading

@@ -1,10 +1,10 @@
 -- Which records stand in a sheet, one behind the other. Definitions only.
-use Prim.Native.Nat.{ℕ, zero, suc, _+_}
+use Prim.Native.Nat.{ℕ, zero, suc, _+_, _*_}
 use mathlib.Core.Bool.{Bool, cond, _&&_}
 use mathlib.Core.List.{List}
 use lib.Dec.{eqb, leb}
 use lib.ListN.{length, getD}
-use Rattle.layout.specs.Places.{plain, linkPlace, nodeOffset}
+use Rattle.layout.specs.Places.{heading, planned, linkPlace}
 use Rattle.layout.specs.declared.places.Layout.{Layout}
 
 -- a record of `size` bytes with the mark's two letters can be read at `at`
@@ -17,22 +17,30 @@ unfolding readable
 recordsFrom first second size zero s at = 0
 recordsFrom first second size (suc k) s at = cond {A = ℕ} (readable first second size s at) (suc (recordsFrom first second size k s (at + size))) 0
 
--- one OP can be read; then so many ND; then so many LK
+-- one OP can be read; a PD straight after it, or none; then so many ND; then so many LK
 unfoldable pub hasOptions : List ℕ → Bool
 hasOptions s = readable 79 80 29 s 0
 
+unfoldable pub hasPressures : List ℕ → Bool
+hasPressures s = readable 80 68 18 s 29
+
+-- where the first ND stands
+unfoldable pub nodesAt : List ℕ → ℕ
+unfolding hasPressures
+nodesAt s = heading (hasPressures s)
+
 unfoldable pub nodesOf : List ℕ → ℕ
-unfolding recordsFrom
-nodesOf s = recordsFrom 78 68 45 (length s) s 29
+unfolding recordsFrom nodesAt
+nodesOf s = recordsFrom 78 68 45 (length s) s (nodesAt s)
 
 unfoldable pub linksOf : List ℕ → ℕ
-unfolding recordsFrom nodesOf
-linksOf s = recordsFrom 76 75 49 (length s) s (nodeOffset (nodesOf s))
+unfolding recordsFrom nodesAt nodesOf
+linksOf s = recordsFrom 76 75 49 (length s) s (nodesAt s + 45 * nodesOf s)
 
 -- the layout that they give, its unknowns not yet counted
 unfoldable pub layoutOf : List ℕ → Layout
-unfolding nodesOf linksOf
-layoutOf s = plain (nodesOf s) (linksOf s) 0
+unfolding hasPressures nodesOf linksOf
+layoutOf s = planned (hasPressures s) (nodesOf s) (linksOf s) 0
 
 -- where they end
 unfoldable pub endOf : List ℕ → ℕ

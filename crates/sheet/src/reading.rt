@@ -2,7 +2,7 @@
 ghost use mathlib.Core.Path.{_≡_};
 ghost use Rattle.layout.specs.Places.{Laid};
 ghost use Rattle.links.specs.Links.{EndsIn};
-ghost use Rattle.sheet.specs.Read.{badNode, badLink, badField, badEnds, withUnknowns, checked, afterScan, readWith, readOf};
+ghost use Rattle.sheet.specs.Read.{badNode, badLink, pressuresFine, badField, badEnds, withUnknowns, checked, afterScan, readWith, readOf};
 use crate::scan::is_record;
 use crate::scan::lay_out;
 use ends::ends_good;
@@ -11,6 +11,7 @@ use fields::base_bounds;
 use fields::link_good;
 use fields::node_good;
 use fields::options_good;
+use fields::pressures_good;
 use found::Found;
 use layout::Layout;
 use layout::OP_SIZE;
@@ -53,13 +54,29 @@ fn bad_link(sheet: &[u8], l: Layout, b: Bounds) -> Found
     Found::Nothing
 }
 
+// Whether there is no PD, or one within its bounds.
+fn pressures_fine(sheet: &[u8], l: Layout, b: Bounds) -> bool
+    requires { ⌜ Laid l (now sheet) ⌝ }
+    ensures { λ r. ⌜ r ≡ pressuresFine b l (now (sheet .entry)) ⌝ }
+{
+    if l.pressures {
+        return pressures_good(sheet, b);
+    }
+    true
+}
+
 // The first record with a field outside its bounds.
 fn bad_field(sheet: &[u8], l: Layout, b: Bounds) -> Found
     requires { ⌜ Laid l (now sheet) ⌝ }
     ensures { λ r. ⌜ r ≡ badField b l (now (sheet .entry)) ⌝ }
 {
-    if !options_good(sheet, b) {
+    let options = options_good(sheet, b);
+    let pressures = pressures_fine(sheet, l, b);
+    if !options {
         return Found::At(0);
+    }
+    if !pressures {
+        return Found::At(OP_SIZE);
     }
     let Found::At(at) = bad_node(sheet, l, b) else {
         return bad_link(sheet, l, b);

@@ -7,6 +7,8 @@ use layout::LK_SIZE;
 use layout::Layout;
 use layout::ND_SIZE;
 use layout::OP_SIZE;
+use layout::PD_SIZE;
+use layout::heading;
 
 // Whether a whole record of `size` bytes with the mark's two letters stands at `at`.
 pub fn is_record(sheet: &[u8], at: usize, first: u8, second: u8, size: usize) -> bool
@@ -33,21 +35,23 @@ pub fn count_records(sheet: &[u8], from: usize, first: u8, second: u8, size: usi
     n
 }
 
-// The layout of a sheet that begins with an OP: all ND behind it, then all LK.
+// The layout of a sheet that begins with an OP: behind it a PD or none, all ND, then all LK.
 pub fn lay_out(sheet: &[u8]) -> Layout
     requires { ⌜ 29 ≤ length (now sheet) ⌝ }
     ensures { λ r. ⌜ r ≡ layoutOf (now (sheet .entry)) ⌝ }
 {
-    let nodes = count_records(sheet, OP_SIZE, b'N', b'D', ND_SIZE);
-    let link0 = OP_SIZE + ND_SIZE * nodes;
+    let pressures = is_record(sheet, OP_SIZE, b'P', b'D', PD_SIZE);
+    let node0 = heading(pressures);
+    let nodes = count_records(sheet, node0, b'N', b'D', ND_SIZE);
+    let link0 = node0 + ND_SIZE * nodes;
     let links = count_records(sheet, link0, b'L', b'K', LK_SIZE);
     Layout {
         nodes: nodes,
         links: links,
         unknowns: 0,
-        node0: OP_SIZE,
+        node0: node0,
         link0: link0,
         stride: LK_SIZE,
-        pressures: false,
+        pressures: pressures,
     }
 }

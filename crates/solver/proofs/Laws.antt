@@ -25,7 +25,7 @@ use Rattle.sheet.proofs.Laws.{and-left, and-right}
 use Rattle.accepted.proofs.Accepts.{accepts, ends-are, laid-are, unknowns-are}
 use Rattle.columns.specs.Columns.{zeros}
 use Rattle.state.specs.Network.{Network}
-use Rattle.state.specs.State.{state, headsFrom, demandsFrom, flowsFrom, codesFrom}
+use Rattle.state.specs.State.{State, state, headsFrom, demandsFrom, flowsFrom, codesFrom}
 use Rattle.trial.specs.Trial.{Repair}
 use Rattle.entries.specs.Entries.{dampingStart, none}
 use Rattle.runs.specs.Run.{Finished, runWith, finish}
@@ -59,13 +59,17 @@ pub emptied-part : (y x : List Float) → y ≡ zeros 4096 → y ++ drop 4096 x 
 unfolding emptied
 emptied-part y x e = rw e
 
-pub run-of : (repair : Repair) (s : List ℕ) (l : Layout) (trials : ℕ) (bytes : List ℕ) (h d q : List Float) (codes : List ℕ) (f : Finished)
-    → trials ≡ trialsOf s → h ≡ headsFrom s l (l .nodes) (zeros 64) → d ≡ demandsFrom s l (l .nodes) (zeros 64) → q ≡ flowsFrom s l (l .links) (zeros 128)
-    → codes ≡ codesFrom s l (l .links) (replicate 128 0)
-    → f ≡ finish 0 none bytes (runWith repair s l trials dampingStart (state h d q codes (replicate 64 false)))
-    → f ≡ runOf repair s l bytes
-unfolding runOf startOf
-run-of repair s l trials bytes h d q codes f et eh ed eq ec ef = rw (← et, ← eh, ← ed, ← eq, ← ec) ef
+-- the columns as the sheet gives them are what a solve starts from
+pub start-of : (s : List ℕ) (l : Layout) (h d q : List Float) (codes : List ℕ)
+    → h ≡ headsFrom s l (l .nodes) (zeros 64) → d ≡ demandsFrom s l (l .nodes) (zeros 64) → q ≡ flowsFrom s l (l .links) (zeros 128)
+    → codes ≡ codesFrom s l (l .links) (replicate 128 0) → state h d d q codes (replicate 64 false) ≡ startOf s l
+unfolding startOf
+start-of s l h d q codes eh ed eq ec = rw (eh, ed, eq, ec)
+
+pub run-of : (repair : Repair) (s : List ℕ) (l : Layout) (trials : ℕ) (bytes : List ℕ) (t : State) (f : Finished)
+    → trials ≡ trialsOf s → t ≡ startOf s l → f ≡ finish 0 none bytes (runWith repair s l trials dampingStart t) → f ≡ runOf repair s l bytes
+unfolding runOf
+run-of repair s l trials bytes t f et es ef = rw (← et, ← es) ef
 
 pub solved-of : (repair : Repair) (s : List ℕ) (l : Layout) (trials : ℕ) (b : Lent) (f : Finished) (o : Solved)
     → trials ≡ trialsOf s → f ≡ runOf repair s l (b .entries) → o ≡ told s l trials b (f .state) (f .ran .tally) (f .bytes) (f .ran .ended)

@@ -23,10 +23,10 @@ use Rattle.conclusion.specs.Conclusion.{told}
 abbrev pub trialsOf : List ℕ → ℕ
 trialsOf s = optionsOf s .trials
 
--- the columns that a solve starts from, as the sheet gives them, and no node grounded
+-- the columns that a solve starts from, as the sheet gives them: drawn flows are the demands, and no node is grounded
 unfoldable pub startOf : List ℕ → Layout → State
 startOf s l =
-    state (headsFrom s l (l .nodes) (zeros 64)) (demandsFrom s l (l .nodes) (zeros 64))
+    state (headsFrom s l (l .nodes) (zeros 64)) (demandsFrom s l (l .nodes) (zeros 64)) (demandsFrom s l (l .nodes) (zeros 64))
     (flowsFrom s l (l .links) (zeros 128)) (codesFrom s l (l .links) (replicate 128 0)) (replicate 64 false)
 
 -- the run of a sheet, over a record

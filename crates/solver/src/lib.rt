@@ -7,7 +7,7 @@ ghost use Rattle.state.specs.State.{state};
 ghost use Rattle.answers.specs.Answers.{lent, Enough};
 ghost use Rattle.conclusion.specs.Conclusion.{emptied};
 ghost use Rattle.trial.specs.Trial.{Room, repairOf};
-ghost use Rattle.solver.specs.Solve.{trialsOf, runOf, solvedWith, solveOf};
+ghost use Rattle.solver.specs.Solve.{trialsOf, startOf, runOf, solvedWith, solveOf};
 use answers::Answer;
 use entries::Tally;
 use found::Found;
@@ -15,61 +15,50 @@ use layout::Layout;
 use runs::Ran;
 use sheet::Reading;
 
-// How a run ended, and the columns that it left.
-struct Done {
-    ran: Ran,
-    heads: [f64; 64],
-    demands: [f64; 64],
-    flows: [f64; 128],
-    statuses: [u8; 128],
-    grounded: [bool; 64],
-}
-
-// The run of a sheet that was read. Its columns are not the caller's, who gets them only of a run
-// that converged.
-fn run(sheet: &[u8], l: Layout, trials: usize, entries: &mut [u8], scratch: &mut [f64]) -> Done
+// The run of a sheet that was read, from its first columns.
+fn run(
+    sheet: &[u8],
+    l: Layout,
+    trials: usize,
+    h: &mut [f64],
+    d: &mut [f64],
+    f: &mut [f64],
+    q: &mut [f64],
+    c: &mut [u8],
+    z: &mut [bool],
+    entries: &mut [u8],
+    scratch: &mut [f64],
+) -> Ran
     requires { ⌜ readOf (now sheet) ≡ Reading.Good l ⌝ }
     requires { ⌜ trials ≡ trialsOf (now sheet) ⌝ }
+    requires { ⌜ state (now h) (now d) (now f) (now q) (now c) (now z) ≡ startOf (now sheet) l ⌝ }
+    requires { ⌜ Room l (state (now h) (now d) (now f) (now q) (now c) (now z)) ⌝ }
     requires { ⌜ (4 * trials ≤ length (now entries)) × (4096 ≤ length (now scratch)) ⌝ }
-    ensures state { λ r. ⌜ record { ran = r .ran; bytes = now (entries .exit); state = state (r .heads) (r .demands) (r .flows) (r .statuses) (r .grounded) } ≡ runOf repairOf (now (sheet .entry)) l (now (entries .entry)) ⌝ }
-    ensures room { λ r. ⌜ Room l (state (r .heads) (r .demands) (r .flows) (r .statuses) (r .grounded)) ⌝ }
-    ensures emptied { λ r. ⌜ now (scratch .exit) ≡ emptied (now (scratch .entry)) ⌝ }
+    ensures state { λ r. ⌜ record { ran = r; bytes = now (entries .exit); state = state (now (h .exit)) (now (d .exit)) (now (f .exit)) (now (q .exit)) (now (c .exit)) (now (z .exit)) } ≡ runOf repairOf (now (sheet .entry)) l (now (entries .entry)) ⌝ }
+    ensures emptied { λ _. ⌜ now (scratch .exit) ≡ emptied (now (scratch .entry)) ⌝ }
 {
-    let mut h = [0.0f64; 64];
-    let mut d = [0.0f64; 64];
-    let mut q = [0.0f64; 128];
-    let mut c = [0u8; 128];
-    let mut z = [false; 64];
     let mut unknowns = [0usize; 64];
     let table = power::power_table();
-    state::start_nodes(sheet, l, &mut h, &mut d);
-    state::start_links(sheet, l, &mut q, &mut c);
     numbering::number_unknowns(sheet, l, &mut unknowns);
-    let ran = runs::run_trials(
+    runs::run_trials(
         sheet,
         l,
         trials,
         &unknowns,
         &table,
-        &mut h,
-        &mut d,
-        &mut q,
-        &mut c,
-        &mut z,
+        h,
+        d,
+        f,
+        q,
+        c,
+        z,
         entries,
         &mut scratch[..4096],
-    );
-    Done {
-        ran: ran,
-        heads: h,
-        demands: d,
-        flows: q,
-        statuses: c,
-        grounded: z,
-    }
+    )
 }
 
-// The solve of a sheet that was read, with buffers that are long enough.
+// The solve of a sheet that was read, with buffers that are long enough. The run's columns are not the
+// caller's, who gets them only of a run that converged.
 fn solved(
     sheet: &[u8],
     l: Layout,
@@ -86,14 +75,29 @@ fn solved(
     requires { ⌜ Enough l trials (lent (now heads) (now demands) (now flows) (now statuses) (now entries) (now scratch)) ⌝ }
     ensures { λ r. ⌜ record { answer = r; lent = lent (now (heads .exit)) (now (demands .exit)) (now (flows .exit)) (now (statuses .exit)) (now (entries .exit)) (now (scratch .exit)) } ≡ solvedWith repairOf (now (sheet .entry)) l (lent (now (heads .entry)) (now (demands .entry)) (now (flows .entry)) (now (statuses .entry)) (now (entries .entry)) (now (scratch .entry))) ⌝ }
 {
-    let done = run(sheet, l, trials, entries, scratch);
-    let ran = done.ran;
-    let h = done.heads;
-    let mut d = done.demands;
-    let q = done.flows;
-    let c = done.statuses;
-    let tally = ran.tally;
+    let mut h = [0.0f64; 64];
+    let mut d = [0.0f64; 64];
+    let mut q = [0.0f64; 128];
+    let mut c = [0u8; 128];
+    let mut z = [false; 64];
+    state::start_nodes(sheet, l, &mut h, &mut d);
+    state::start_links(sheet, l, &mut q, &mut c);
+    let mut f = d;
+    let ran = run(
+        sheet,
+        l,
+        trials,
+        &mut h,
+        &mut d,
+        &mut f,
+        &mut q,
+        &mut c,
+        &mut z,
+        entries,
+        scratch,
+    );
     let ended = ran.ended;
+    let tally = ran.tally;
     conclusion::conclude(
         sheet,
         l,
@@ -101,7 +105,8 @@ fn solved(
         ended,
         tally,
         &h,
-        &mut d,
+        &d,
+        &f,
         &q,
         &c,
         heads,

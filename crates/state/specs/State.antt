@@ -11,16 +11,17 @@ use Rattle.numbering.specs.Numbering.{rowAt}
 use Rattle.numbering.specs.declared.Row.{Row}
 use Rattle.numbering.specs.declared.Row.the-variants.{Unknown, Fixed}
 
--- a head and a demand for each node, a flow and a status code for each link, and the nodes that were grounded
+-- a head, a demand (what it asks) and a drawn flow for each node, a flow and a status code for each link, and the nodes that were grounded
 pub record State : Type 0 where
   pub heads : List Float
   pub demands : List Float
+  pub drawn : List Float
   pub flows : List Float
   pub statuses : List ℕ
   pub grounded : List Bool
 
-abbrev pub state : List Float → List Float → List Float → List ℕ → List Bool → State
-state h d q t k = record { heads = h; demands = d; flows = q; statuses = t; grounded = k }
+abbrev pub state : List Float → List Float → List Float → List Float → List ℕ → List Bool → State
+state h d f q c z = record { heads = h; demands = d; drawn = f; flows = q; statuses = c; grounded = z }
 
 -- the first i heads and demands, the first j flows and status codes, as the sheet gives them
 unfoldable pub headsFrom : List ℕ → Layout → ℕ → List Float → List Float

@@ -15,6 +15,7 @@ use Rattle.layout.specs.declared.places.Layout.{Layout}
 use Rattle.update.specs.Update.{basis, stepping, updateOf}
 use Rattle.update.specs.declared.Stats.{Stats}
 use Rattle.tanks.specs.Tanks.{tanks, tankLinksOf}
+use Rattle.drawn.specs.Drawn.{draws, drawnOf}
 use Rattle.damping.specs.declared.steps.Damping.{Damping}
 use Rattle.entries.specs.declared.Entry.{Entry}
 use Rattle.entries.specs.declared.Entry.the-variants.{Wild, Stepped, Converged}
@@ -43,11 +44,12 @@ module _ (o : Options) (d : Damping) (f : Found) (m : Stats) where
 
 -- ---- the calls of a step
 
-pub step-of : (s : List ℕ) (l : Layout) (d : Damping) (t : State) (g y x h q w : List Float) (codes codes' : List ℕ) (m : Stats) (r : Entry)
+pub step-of : (s : List ℕ) (l : Layout) (d : Damping) (t : State) (g y x h q w f : List Float) (codes codes' : List ℕ) (m m' : Stats) (r : Entry)
     → h ≡ solvedHeads s l x (l .nodes) (t .heads)
     → stepping q codes m ≡ updateOf s l (basis h g y (d .factor)) (t .flows) (t .statuses)
     → tanks w codes' ≡ tankLinksOf s l h q (t .demands) codes
-    → r ≡ verdict (wildPlace (l .nodes) (l .links) h q) (optionsOf s) d m
-    → outcome r (state h w q codes' (t .grounded)) ≡ stepOf s l d t g y x
+    → draws f m' ≡ drawnOf s l h (d .factor) w (draws (t .drawn) m)
+    → r ≡ verdict (wildPlace l h q f) (optionsOf s) d m'
+    → outcome r (state h w f q codes' (t .grounded)) ≡ stepOf s l d t g y x
 unfolding stepOf
-step-of s l d t g y x h q w codes codes' m r eh eu et er = rw (← eh, ← eu, ← et, er)
+step-of s l d t g y x h q w f codes codes' m m' r eh eu et ef er = rw (← eh, ← eu, ← et, ← ef, er)

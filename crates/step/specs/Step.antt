@@ -15,6 +15,7 @@ use Rattle.layout.specs.declared.places.Layout.{Layout}
 use Rattle.update.specs.Update.{basis, updateOf}
 use Rattle.update.specs.declared.Stats.{Stats}
 use Rattle.tanks.specs.Tanks.{tankLinksOf}
+use Rattle.drawn.specs.Drawn.{draws, drawnOf}
 use Rattle.entries.specs.declared.Entry.{Entry}
 use Rattle.entries.specs.declared.Entry.the-variants.{Wild, Stepped, Converged}
 use Rattle.damping.specs.declared.steps.Damping.{Damping}
@@ -40,19 +41,21 @@ unfolding judged
 verdict (At place) o d m = Wild place
 verdict Nothing o d m = judged o d m
 
--- a step with the solved unknowns x: heads, flows and statuses, tank links, then the verdict
+-- a step with the solved unknowns x: heads, flows and statuses, tank links, drawn flows, then the verdict
 unfoldable pub stepOf : List ℕ → Layout → Damping → State → List Float → List Float → List Float → Outcome
 unfolding verdict
 stepOf s l d t g y x =
     let h = solvedHeads s l x (l .nodes) (t .heads) in
     let u = updateOf s l (basis h g y (d .factor)) (t .flows) (t .statuses) in
     let w = tankLinksOf s l h (u .flows) (t .demands) (u .codes) in
-    outcome (verdict (wildPlace (l .nodes) (l .links) h (u .flows)) (optionsOf s) d (u .stats)) (state h (w .demands) (u .flows) (w .codes) (t .grounded))
+    let f = drawnOf s l h (d .factor) (w .demands) (draws (t .drawn) (u .stats)) in
+    outcome (verdict (wildPlace l h (u .flows) (f .drawn)) (optionsOf s) d (f .stats)) (state h (w .demands) (f .drawn) (u .flows) (w .codes) (t .grounded))
 
 -- the columns are long enough for the nodes and links
 pub record Room (l : Layout) (t : State) : Type 0 where
   pub heads : l .nodes ≤ length (t .heads)
   pub demands : l .nodes ≤ length (t .demands)
+  pub drawn : l .nodes ≤ length (t .drawn)
   pub flows : l .links ≤ length (t .flows)
   pub statuses : l .links ≤ length (t .statuses)
   pub grounded : l .nodes ≤ length (t .grounded)

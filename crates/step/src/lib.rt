@@ -1,4 +1,5 @@
-// A trial's step once its matrix is factored: heads, flows and statuses, tank links, then the verdict.
+// A trial's step once its matrix is factored: heads, flows and statuses, tank links, drawn
+// flows, then the verdict.
 ghost use mathlib.Core.Path.{_≡_};
 ghost use Prim.Native.Nat.{_≤_};
 ghost use lib.ListN.{length};
@@ -45,6 +46,7 @@ pub fn step(
     x: &[f64],
     heads: &mut [f64],
     demands: &mut [f64],
+    drawn: &mut [f64],
     flows: &mut [f64],
     statuses: &mut [u8],
     grounded: &[bool],
@@ -52,13 +54,14 @@ pub fn step(
     requires { ⌜ Network l (now sheet) ⌝ }
     requires { ⌜ (l .nodes ≤ length (now unknowns)) × (RowsRight l (now sheet) (now unknowns)) ⌝ }
     requires { ⌜ (l .links ≤ length (now g)) × ((l .links ≤ length (now y)) × (64 ≤ length (now x))) ⌝ }
-    requires { ⌜ Room l (state (now heads) (now demands) (now flows) (now statuses) (now grounded)) ⌝ }
-    ensures { λ r. ⌜ outcome r (state (now (heads .exit)) (now (demands .exit)) (now (flows .exit)) (now (statuses .exit)) (now (grounded .entry))) ≡ stepOf (now (sheet .entry)) l d (state (now (heads .entry)) (now (demands .entry)) (now (flows .entry)) (now (statuses .entry)) (now (grounded .entry))) (now (g .entry)) (now (y .entry)) (now (x .entry)) ⌝ }
+    requires { ⌜ Room l (state (now heads) (now demands) (now drawn) (now flows) (now statuses) (now grounded)) ⌝ }
+    ensures { λ r. ⌜ outcome r (state (now (heads .exit)) (now (demands .exit)) (now (drawn .exit)) (now (flows .exit)) (now (statuses .exit)) (now (grounded .entry))) ≡ stepOf (now (sheet .entry)) l d (state (now (heads .entry)) (now (demands .entry)) (now (drawn .entry)) (now (flows .entry)) (now (statuses .entry)) (now (grounded .entry))) (now (g .entry)) (now (y .entry)) (now (x .entry)) ⌝ }
 {
     state::put_heads(sheet, l, unknowns, x, heads);
-    let stats = update::update_links(sheet, l, heads, g, y, d.factor, flows, statuses);
+    let links = update::update_links(sheet, l, heads, g, y, d.factor, flows, statuses);
     tanks::tank_links(sheet, l, heads, flows, demands, statuses);
-    match wild::wild_place(l.nodes, l.links, heads, flows) {
+    let stats = drawn::update_drawn(sheet, l, heads, d.factor, demands, drawn, links);
+    match wild::wild_place(l, heads, flows, drawn) {
         Found::At(place) => Entry::Wild(place),
         Found::Nothing => judge(records::options_of(sheet), d, stats),
     }

@@ -4,15 +4,17 @@ ghost use mathlib.Core.Path.{_≡_};
 ghost use Prim.Native.Nat.{_+_, _≤_, _<_};
 ghost use lib.ListN.{length};
 ghost use Rattle.words.specs.Buffer.{placed};
-ghost use Rattle.stream.specs.Stream.{fits, inLinks, inNodes, inOptions, stepOf, fedOf, countOf, endInNodes, endInLinks, refusalOf, lineOf};
+ghost use Rattle.stream.specs.Stream.{fits, inLinks, inNodes, atNodes, inPressures, atPressures, inOptions, stepOf, fedOf, countOf, endInNodes, endInLinks, refusalOf, lineOf};
+use layout::heading;
 use refusals::Refusal;
 
-// What was read so far: whole nodes and links, and how many bytes of the next record. Once a record
-// can't be read, its offset.
+// What was read so far: whether a PD, how many whole nodes and links, and how many bytes of the
+// next record. Once a record can't be read, its offset. Behind the OP, `Pressures` waits for a PD.
 pub enum Progress {
     Options(usize),
-    Nodes(usize, usize),
-    Links(usize, usize, usize),
+    Pressures(usize),
+    Nodes(bool, usize, usize),
+    Links(bool, usize, usize, usize),
     Stopped(usize),
 }
 
@@ -35,35 +37,70 @@ fn in_options(got: usize, b: u8) -> Progress
         if got < 28 {
             return Progress::Options(got + 1);
         }
-        return Progress::Nodes(0, 0);
+        return Progress::Pressures(0);
     }
     Progress::Stopped(0)
 }
 
-fn in_nodes(n: usize, got: usize, b: u8) -> Progress
+fn in_pressures(got: usize, b: u8) -> Progress
+    ensures { λ r. ⌜ r ≡ inPressures got b ⌝ }
+{
+    if fits(b'P', b'D', got, b) {
+        if got < 17 {
+            return Progress::Pressures(got + 1);
+        }
+        return Progress::Nodes(true, 0, 0);
+    }
+    Progress::Stopped(29)
+}
+
+fn in_nodes(pressures: bool, n: usize, got: usize, b: u8) -> Progress
     requires { ⌜ n < 144115188075855872 ⌝ }
-    ensures { λ r. ⌜ r ≡ inNodes n got b ⌝ }
+    ensures { λ r. ⌜ r ≡ inNodes pressures n got b ⌝ }
 {
     if fits(b'N', b'D', got, b) {
         if got < 44 {
-            return Progress::Nodes(n, got + 1);
+            return Progress::Nodes(pressures, n, got + 1);
         }
-        return Progress::Nodes(n + 1, 0);
+        let whole = n + 1;
+        return Progress::Nodes(pressures, whole, 0);
     }
-    Progress::Stopped(29 + 45 * n)
+    Progress::Stopped(heading(pressures) + 45 * n)
 }
 
-fn in_links(n: usize, k: usize, got: usize, b: u8) -> Progress
+fn in_links(pressures: bool, n: usize, k: usize, got: usize, b: u8) -> Progress
     requires { ⌜ n + k < 144115188075855872 ⌝ }
-    ensures { λ r. ⌜ r ≡ inLinks n k got b ⌝ }
+    ensures { λ r. ⌜ r ≡ inLinks pressures n k got b ⌝ }
 {
     if fits(b'L', b'K', got, b) {
         if got < 48 {
-            return Progress::Links(n, k, got + 1);
+            return Progress::Links(pressures, n, k, got + 1);
         }
-        return Progress::Links(n, k + 1, 0);
+        let whole = k + 1;
+        return Progress::Links(pressures, n, whole, 0);
     }
-    Progress::Stopped(29 + 45 * n + 49 * k)
+    Progress::Stopped(heading(pressures) + 45 * n + 49 * k)
+}
+
+// A byte where nodes stand. An `L` where one could start is the first link's.
+fn at_nodes(pressures: bool, n: usize, got: usize, b: u8) -> Progress
+    requires { ⌜ n < 144115188075855872 ⌝ }
+    ensures { λ r. ⌜ r ≡ atNodes pressures n got b ⌝ }
+{
+    if (got == 0) & (b == b'L') {
+        return in_links(pressures, n, 0, 0, b);
+    }
+    in_nodes(pressures, n, got, b)
+}
+
+// A byte where a PD may stand. Where none starts with it, it stands where nodes do.
+fn at_pressures(got: usize, b: u8) -> Progress
+    ensures { λ r. ⌜ r ≡ atPressures got b ⌝ }
+{
+    if (0 < got) | (b == b'P') {
+        return in_pressures(got, b);
+    }
+    at_nodes(false, 0, 0, b)
 }
 
 // One byte more.
@@ -73,14 +110,9 @@ pub fn step(p: Progress, b: u8) -> Progress
 {
     match p {
         Progress::Options(got) => in_options(got, b),
-        Progress::Nodes(n, got) => {
-            if (got == 0) & (b == b'L') {
-                in_links(n, 0, 0, b)
-            } else {
-                in_nodes(n, got, b)
-            }
-        }
-        Progress::Links(n, k, got) => in_links(n, k, got, b),
+        Progress::Pressures(got) => at_pressures(got, b),
+        Progress::Nodes(pressures, n, got) => at_nodes(pressures, n, got, b),
+        Progress::Links(pressures, n, k, got) => in_links(pressures, n, k, got, b),
         Progress::Stopped(at) => Progress::Stopped(at),
     }
 }
@@ -98,22 +130,22 @@ pub fn feed(p: Progress, bytes: &[u8]) -> Progress
     q
 }
 
-fn end_in_nodes(n: usize, got: usize) -> Refusal
+fn end_in_nodes(pressures: bool, n: usize, got: usize) -> Refusal
     requires { ⌜ n ≤ 144115188075855872 ⌝ }
-    ensures { λ r. ⌜ r ≡ endInNodes n got ⌝ }
+    ensures { λ r. ⌜ r ≡ endInNodes pressures n got ⌝ }
 {
     if got == 0 {
         return Refusal::NodeCount;
     }
-    Refusal::Unreadable(29 + 45 * n)
+    Refusal::Unreadable(heading(pressures) + 45 * n)
 }
 
-fn end_in_links(n: usize, k: usize, got: usize) -> Refusal
+fn end_in_links(pressures: bool, n: usize, k: usize, got: usize) -> Refusal
     requires { ⌜ n + k ≤ 144115188075855872 ⌝ }
-    ensures { λ r. ⌜ r ≡ endInLinks n k got ⌝ }
+    ensures { λ r. ⌜ r ≡ endInLinks pressures n k got ⌝ }
 {
     if got != 0 {
-        return Refusal::Unreadable(29 + 45 * n + 49 * k);
+        return Refusal::Unreadable(heading(pressures) + 45 * n + 49 * k);
     }
     if (1 <= n) & (n <= 64) {
         return Refusal::LinkCount;
@@ -128,8 +160,9 @@ pub fn refusal(p: Progress) -> Refusal
 {
     match p {
         Progress::Options(_) => Refusal::Unreadable(0),
-        Progress::Nodes(n, got) => end_in_nodes(n, got),
-        Progress::Links(n, k, got) => end_in_links(n, k, got),
+        Progress::Pressures(got) => end_in_nodes(false, 0, got),
+        Progress::Nodes(pressures, n, got) => end_in_nodes(pressures, n, got),
+        Progress::Links(pressures, n, k, got) => end_in_links(pressures, n, k, got),
         Progress::Stopped(at) => Refusal::Unreadable(at),
     }
 }

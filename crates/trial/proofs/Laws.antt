@@ -19,6 +19,7 @@ use Rattle.nodes.specs.Nodes.{serving}
 use Rattle.numbering.specs.Numbering.{nodeNumbered}
 use Rattle.nodes.specs.declared.NodeIndex.{NodeIndex}
 use Rattle.numbering.proofs.Rows.{node-of}
+use Rattle.drawing.specs.Drawing.{counting}
 use Rattle.excess.specs.Excess.{excessOf}
 use Rattle.assembly.specs.Assembly.{System, system, view, assembleOf}
 use Rattle.assembly.proofs.Fresh.{fresh}
@@ -28,14 +29,14 @@ use Rattle.damping.specs.declared.steps.Damping.{Damping}
 use Rattle.entries.specs.declared.Entry.{Entry}
 use Rattle.trial.specs.Trial.{Outcome, outcome, Repair, repairOf, stepOf, factored, systemOf, factorsOf, trialWith}
 
-module _ (s : List ℕ) (l : Layout) (t : State) (m₀ e m r g y : List Float) where
-  pub system-of : length m₀ ≡ 4096 → e ≡ excessOf s l (t .demands) (t .flows) (zeros 64)
-      → system m r g y ≡ assembleOf s l (view (t .heads) (t .flows) (t .statuses) e) (t .demands) (t .grounded) (system m₀ (zeros 64) (zeros 128) (zeros 128))
+module _ (s : List ℕ) (l : Layout) (t : State) (m₀ counted e m r g y : List Float) where
+  pub system-of : length m₀ ≡ 4096 → counted ≡ counting (l .pressures) (t .drawn) (t .demands) → e ≡ excessOf s l counted (t .flows) (zeros 64)
+      → system m r g y ≡ assembleOf s l (view (t .heads) (t .flows) (t .statuses) e) (t .demands) (t .drawn) (t .grounded) (system m₀ (zeros 64) (zeros 128) (zeros 128))
       → system m r g y ≡ systemOf s l t
   unfolding systemOf
-  system-of h ex built =
-      rw (← ex)
-      (built ∙ fresh s l (view (t .heads) (t .flows) (t .statuses) e) (t .demands) (t .grounded) m₀ (zeros 4096) (zeros 64) (zeros 64) (zeros 128) (zeros 128) h (zeros-long 4096) (zeros-long 64) (zeros-long 64))
+  system-of h ec ex built =
+      rw (← ec, ← ex)
+      (built ∙ fresh s l (view (t .heads) (t .flows) (t .statuses) e) (t .demands) (t .drawn) (t .grounded) m₀ (zeros 4096) (zeros 64) (zeros 64) (zeros 128) (zeros 128) h (zeros-long 4096) (zeros-long 64) (zeros-long 64))
 
 -- the two ways of a trial, whatever the repair: x are the factors, f the factorization's answer
 module _ (repair : Repair) (s : List ℕ) (l : Layout) (d : Damping) (t : State) (m r g y x : List Float) (f : Factored) (o : Outcome)
@@ -61,7 +62,7 @@ failing-below s l m f u node counted answered stopped e =
 
 pub repair-of : (s : List ℕ) (l : Layout) (t : State) (i : ℕ) (node : NodeIndex) (r : Entry) (codes : List ℕ) (marks : List Bool)
     → node ≡ record { 0 = i } → repaired r codes marks ≡ repairAt s l (t .statuses) (t .grounded) (node .0)
-    → outcome r (state (t .heads) (t .demands) (t .flows) codes marks) ≡ repairOf s l t i
+    → outcome r (state (t .heads) (t .demands) (t .drawn) (t .flows) codes marks) ≡ repairOf s l t i
 unfolding repairOf
 repair-of s l t i node r codes marks e h =
     let p : node .0 ≡ i = ap (λ (k : NodeIndex). k .0) e in

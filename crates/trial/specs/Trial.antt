@@ -10,6 +10,7 @@ use Rattle.linear.specs.declared.factorization.Factored.the-variants.{Done, Sto
 use Rattle.columns.specs.Columns.{zeros}
 use Rattle.layout.specs.declared.places.Layout.{Layout}
 use Rattle.numbering.specs.Numbering.{nodeNumbered}
+use Rattle.drawing.specs.Drawing.{counting}
 use Rattle.excess.specs.Excess.{excessOf}
 use Rattle.assembly.specs.Assembly.{System, system, view, assembleOf}
 use Rattle.state.specs.State.{State, state}
@@ -28,7 +29,7 @@ unfoldable pub repairOf : Repair
 unfolding repairAt
 repairOf s l t i =
     let r = repairAt s l (t .statuses) (t .grounded) i in
-    outcome (r .entry) (state (t .heads) (t .demands) (t .flows) (r .codes) (r .marks))
+    outcome (r .entry) (state (t .heads) (t .demands) (t .drawn) (t .flows) (r .codes) (r .marks))
 
 -- a solver that repairs nothing
 unfoldable pub noRepair : Repair
@@ -40,11 +41,11 @@ unfolding stepOf nodeNumbered
 factored repair s l d t a f (Stopped u) = repair s l t (nodeNumbered s l (l .nodes) (u .0))
 factored repair s l d t a f Done = stepOf s l d t (a .g) (a .y) (solved f (l .unknowns) (a .rhs))
 
--- the system of a state: excess flows, then the assembly
+-- the system of a state: excess flows of the demands that count, then the assembly
 unfoldable pub systemOf : List ℕ → Layout → State → System
 systemOf s l t =
-    let e = excessOf s l (t .demands) (t .flows) (zeros 64) in
-    assembleOf s l (view (t .heads) (t .flows) (t .statuses) e) (t .demands) (t .grounded) (system (zeros 4096) (zeros 64) (zeros 128) (zeros 128))
+    let e = excessOf s l (counting (l .pressures) (t .drawn) (t .demands)) (t .flows) (zeros 64) in
+    assembleOf s l (view (t .heads) (t .flows) (t .statuses) e) (t .demands) (t .drawn) (t .grounded) (system (zeros 4096) (zeros 64) (zeros 128) (zeros 128))
 
 -- what a trial leaves in the scratch, which held whatever it held: the factors, as far as they go
 unfoldable pub factorsOf : List ℕ → Layout → State → List Float

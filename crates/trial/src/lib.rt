@@ -22,6 +22,7 @@ pub fn trial(
     d: Damping,
     heads: &mut [f64],
     demands: &mut [f64],
+    drawn: &mut [f64],
     flows: &mut [f64],
     statuses: &mut [u8],
     grounded: &mut [bool],
@@ -30,16 +31,17 @@ pub fn trial(
     requires { ⌜ Network l (now sheet) ⌝ }
     requires { ⌜ (l .nodes ≤ length (now unknowns)) × (RowsRight l (now sheet) (now unknowns)) ⌝ }
     requires { ⌜ now table ≡ powerTable ⌝ }
-    requires { ⌜ Room l (state (now heads) (now demands) (now flows) (now statuses) (now grounded)) ⌝ }
+    requires { ⌜ Room l (state (now heads) (now demands) (now drawn) (now flows) (now statuses) (now grounded)) ⌝ }
     requires { ⌜ length (now scratch) ≡ 4096 ⌝ }
-    ensures state { λ r. ⌜ outcome r (state (now (heads .exit)) (now (demands .exit)) (now (flows .exit)) (now (statuses .exit)) (now (grounded .exit))) ≡ trialOf (now (sheet .entry)) l d (state (now (heads .entry)) (now (demands .entry)) (now (flows .entry)) (now (statuses .entry)) (now (grounded .entry))) ⌝ }
-    ensures factors { λ r. ⌜ now (scratch .exit) ≡ factorsOf (now (sheet .entry)) l (state (now (heads .entry)) (now (demands .entry)) (now (flows .entry)) (now (statuses .entry)) (now (grounded .entry))) ⌝ }
+    ensures state { λ r. ⌜ outcome r (state (now (heads .exit)) (now (demands .exit)) (now (drawn .exit)) (now (flows .exit)) (now (statuses .exit)) (now (grounded .exit))) ≡ trialOf (now (sheet .entry)) l d (state (now (heads .entry)) (now (demands .entry)) (now (drawn .entry)) (now (flows .entry)) (now (statuses .entry)) (now (grounded .entry))) ⌝ }
+    ensures factors { λ r. ⌜ now (scratch .exit) ≡ factorsOf (now (sheet .entry)) l (state (now (heads .entry)) (now (demands .entry)) (now (drawn .entry)) (now (flows .entry)) (now (statuses .entry)) (now (grounded .entry))) ⌝ }
 {
     let mut excess = [0.0f64; 64];
     let mut rhs = [0.0f64; 64];
     let mut g = [0.0f64; 128];
     let mut y = [0.0f64; 128];
-    excess::excess_flows(sheet, l, demands, flows, &mut excess);
+    let counted = drawing::counts(l.pressures, drawn, demands);
+    excess::excess_flows(sheet, l, counted, flows, &mut excess);
     assembly::assemble(
         sheet,
         l,
@@ -47,6 +49,7 @@ pub fn trial(
         table,
         heads,
         demands,
+        drawn,
         flows,
         statuses,
         grounded,
@@ -73,6 +76,7 @@ pub fn trial(
                 &rhs,
                 heads,
                 demands,
+                drawn,
                 flows,
                 statuses,
                 grounded,

@@ -4,6 +4,7 @@
 use crate::error::SolverError;
 use crate::model::network::Network;
 use crate::model::node::NodeType;
+use crate::model::options::DemandModel;
 use crate::solver::state::SolverState;
 use simplelog::trace::{self, Event};
 use std::cell::Cell;
@@ -12,30 +13,45 @@ thread_local! {
     static DEEP: Cell<bool> = const { Cell::new(false) };
 }
 
-/// Also put heads and flows of each stepped trial on the trace.
+/// Also put heads, flows and drawn flows of each stepped trial on the trace.
 pub fn deep(on: bool) {
     DEEP.with(|d| d.set(on));
 }
 
-/// Document 01, refusal 7: a head or flow that is NaN, infinite or at least
-/// 2^64 in magnitude; the first such node, else 64 + the first such link.
-pub fn place_of_seven(heads: &[f64], flows: &[f64]) -> Option<usize> {
+/// Refusal 7: a head, flow or drawn flow that is NaN, infinite or at least 2^64 in
+/// magnitude; the first such node, else 64 + the first such link, else 256 + the
+/// first node that draws so.
+pub fn place_of_seven(heads: &[f64], flows: &[f64], drawn: &[f64]) -> Option<usize> {
     let limit = 18_446_744_073_709_551_616.0;
     let bad = |x: &f64| x.is_nan() || x.abs() >= limit;
-    let node = heads.iter().position(bad);
-    node.or_else(|| flows.iter().position(bad).map(|link| 64 + link))
+    let columns = [(0, heads), (64, flows), (256, drawn)];
+    let mut places = columns
+        .iter()
+        .filter_map(|(first, column)| Some(first + column.iter().position(bad)?));
+    places.next()
 }
 
-/// Called where document 01 puts the test: after the tank links, before damping.
-pub fn stepped(state: &SolverState) -> Result<(), SolverError> {
+/// The drawn flows where they count, else none.
+fn drawn_of<'a>(network: &Network, state: &'a SolverState) -> &'a [f64] {
+    match network.options.demand_model {
+        DemandModel::PDA => &state.demand_flows,
+        _ => &[],
+    }
+}
+
+/// Called where documents 01 and 02 put the test: after the tank links and the drawn
+/// update, before damping.
+pub fn stepped(network: &Network, state: &SolverState) -> Result<(), SolverError> {
+    let drawn = drawn_of(network, state);
     if trace::on() && DEEP.with(|d| d.get()) {
         trace::push(Event::State {
             heads: state.heads.clone(),
             flows: state.flows.clone(),
+            drawn: drawn.to_vec(),
         });
     }
     if cfg!(feature = "seven")
-        && let Some(place) = place_of_seven(&state.heads, &state.flows)
+        && let Some(place) = place_of_seven(&state.heads, &state.flows, drawn)
     {
         if trace::on() {
             trace::push(Event::NotFinite { place });
@@ -58,15 +74,16 @@ pub fn total_demand(network: &Network, demands: &[f64]) -> f64 {
 
 #[cfg(test)]
 mod tests {
-    use super::place_of_seven;
+    use super::place_of_seven as place;
 
     #[test]
-    fn nodes_before_links() {
+    fn heads_then_flows_then_drawn_flows() {
         let limit = 18_446_744_073_709_551_616.0;
         let under = f64::from_bits(f64::to_bits(limit) - 1);
-        assert_eq!(place_of_seven(&[0.0, under], &[-under]), None);
-        assert_eq!(place_of_seven(&[0.0, -limit], &[f64::NAN]), Some(1));
-        assert_eq!(place_of_seven(&[0.0], &[1.0, f64::INFINITY]), Some(65));
-        assert_eq!(place_of_seven(&[], &[]), None);
+        assert_eq!(place(&[0.0, under], &[-under], &[under, 0.0]), None);
+        assert_eq!(place(&[0.0, -limit], &[f64::NAN], &[limit]), Some(1));
+        assert_eq!(place(&[0.0], &[1.0, f64::INFINITY], &[limit]), Some(65));
+        assert_eq!(place(&[0.0], &[1.0], &[0.0, limit]), Some(257));
+        assert_eq!(place(&[], &[], &[]), None);
     }
 }

@@ -4,7 +4,7 @@ use crate::model::junction::Junction;
 use crate::model::link::{Link, LinkStatus, LinkType};
 use crate::model::network::Network;
 use crate::model::node::{Node, NodeType};
-use crate::model::options::HeadlossFormula;
+use crate::model::options::{DemandModel, HeadlossFormula};
 use crate::model::pipe::Pipe;
 use crate::model::reservoir::Reservoir;
 use crate::model::tank::Tank;
@@ -59,6 +59,12 @@ pub fn network_of(sheet: &Sheet) -> Network {
     network.options.max_flow_change =
         (sheet.max_flow_change != 0.0).then_some(sheet.max_flow_change);
     network.options.max_trials = sheet.trials as usize;
+    if let Some(pressures) = sheet.pressures {
+        network.options.demand_model = DemandModel::PDA;
+        network.options.minimum_pressure = pressures.minimum;
+        network.options.required_pressure = pressures.required;
+        network.options.pressure_exponent = 0.5;
+    }
     // what the original's reading of a file would set
     network.contains_pressure_control_valve =
         sheet.links.iter().any(|l| l.kind == 1 || l.kind == 2);
@@ -145,14 +151,16 @@ pub fn link_type(l: &SheetLink) -> LinkType {
     })
 }
 
-/// Everything straight from the sheet; the solver takes any state.
+/// Everything straight from the sheet; the solver takes any state. Drawn flows start
+/// as the demands, as `apply_patterns` leaves them; without `PD` nothing reads them.
 pub fn state_of(sheet: &Sheet, network: &Network) -> SolverState {
+    let demands: Vec<f64> = sheet.nodes.iter().map(|n| n.demand).collect();
     SolverState {
         flows: sheet.links.iter().map(|l| l.flow).collect(),
         heads: sheet.nodes.iter().map(|n| n.head).collect(),
-        demands: sheet.nodes.iter().map(|n| n.demand).collect(),
+        demand_flows: demands.clone(),
+        demands,
         emitter_flows: vec![0.0; sheet.nodes.len()],
-        demand_flows: vec![0.0; sheet.nodes.len()],
         statuses: sheet.links.iter().map(|l| status_of(l.status)).collect(),
         settings: sheet.links.iter().map(|l| l.setting).collect(),
         resistances: sheet.links.iter().map(|l| l.resistance).collect(),

@@ -6,10 +6,13 @@
 //!   -> conductance offset up-diagonal up-right-side down-diagonal down-right-side
 //!   S kind status setting q head-up head-down elevation-up elevation-down
 //!   -> the new status, if there is one
+//!   D drawn asked pressure-range
+//!   -> conductance offset
 //!   F n, the lower triangle row by row, the right side
 //!   -> `column c`, the first whose pivot is not above zero, or the solution
 
 use crate::answer::hex;
+use crate::model::junction::Junction;
 use crate::model::link::{Link, LinkTrait, NodeModification};
 use crate::network::{code_of, link_type, status_of};
 use crate::sheet::SheetLink;
@@ -33,6 +36,7 @@ fn answer(words: &[&str]) -> Option<String> {
             coefficients(kind, check_valve, status, floats)
         }
         ["S", kind, status, ref floats @ ..] => new_status(kind, status, floats),
+        ["D", ref floats @ ..] => demand(floats),
         ["F", n, ref floats @ ..] => factor(n.parse().ok()?, floats),
         _ => None,
     }
@@ -105,6 +109,17 @@ fn new_status(kind: &str, status: &str, words: &[&str]) -> Option<String> {
     Some(found.map_or("-".into(), |s| code_of(s).to_string()))
 }
 
+/// With the pressure exponent 0.5, so n is 2.
+fn demand(words: &[&str]) -> Option<String> {
+    let [drawn, asked, range] = floats(words)?;
+    let junction = Junction {
+        emitter_coefficient: 0.0,
+        demands: vec![],
+    };
+    let (conductance, offset) = junction.demand_coefficients(drawn, asked, range, 1.0 / 0.5);
+    Some(format!("{} {}", hex(conductance), hex(offset)))
+}
+
 fn factor(n: usize, words: &[&str]) -> Option<String> {
     let triangle = n.checked_mul(n + 1)? / 2;
     if words.len() != triangle + n {
@@ -166,6 +181,35 @@ mod tests {
         assert_eq!(of(&line("S 1 2", &heads)), "1\n");
         assert_eq!(of(&line("S 0 3", &heads)), "1\n");
         assert_eq!(of(&line("S 5 3", &heads)), "-\n");
+    }
+
+    #[test]
+    fn demands() {
+        let found = |floats: [f64; 3]| of(&line("D", &floats));
+        let pair = |a: f64, b: f64| format!("{} {}\n", hex(a), hex(b));
+        assert_eq!(found([0.0, 1.0, 10.0]), pair(1e-8, 0.0));
+        assert_eq!(found([0.5, 1.0, 10.0]), pair(0.1, 2.5));
+        assert_eq!(found([1.0, 1.0, 10.0]), pair(1e-8, 10.0));
+        assert_eq!(found([-2.0, 1.0, 10.0]), pair(1e-8, -2e8));
+        // a demand so small that the gradient is infinite
+        assert_eq!(found([1e-320, 2e-320, 10.0]), pair(0.0, f64::INFINITY));
+        assert!(run(&b"D 0\n"[..], Vec::new()).is_err());
+    }
+
+    /// `factor.powf(n - 1.0)` is kept as it is: with n = 2 it gives back the factor.
+    #[test]
+    fn the_first_power() {
+        let one = std::hint::black_box(1.0 / 0.5 - 1.0);
+        for exponent in 0..1023u64 {
+            for k in 0..2000u64 {
+                let bits = exponent << 52 | (k * k * 0x9e37_79b9_7f4a) & ((1 << 52) - 1);
+                let factor = f64::from_bits(bits);
+                assert_eq!(factor.powf(one).to_bits(), bits);
+            }
+        }
+        for bits in 0..100_000 {
+            assert_eq!(f64::from_bits(bits).powf(one).to_bits(), bits);
+        }
     }
 
     #[test]

@@ -1,5 +1,5 @@
-//! Document 01's network sheet and its refusals 1 to 4. Refusal 5 is about lent
-//! buffers and cannot arise here.
+//! Document 01's network sheet with document 02's `PD`, and refusals 1 to 4.
+//! Refusal 5 is about lent buffers and cannot arise here.
 
 #[derive(Debug)]
 pub struct SheetNode {
@@ -29,6 +29,14 @@ pub struct SheetLink {
     pub flow: f64,
 }
 
+/// Document 02, [11]: in feet.
+#[derive(Debug, Clone, Copy)]
+pub struct Pressures {
+    pub at: usize,
+    pub minimum: f64,
+    pub required: f64,
+}
+
 #[derive(Debug)]
 pub struct Sheet {
     pub accuracy: f64,
@@ -36,6 +44,7 @@ pub struct Sheet {
     pub max_flow_change: f64,
     pub trials: u16,
     pub unit: u8,
+    pub pressures: Option<Pressures>,
     pub nodes: Vec<SheetNode>,
     pub links: Vec<SheetLink>,
 }
@@ -71,13 +80,14 @@ impl Fields<'_> {
 }
 
 const OP_BYTES: usize = 29;
+const PD_BYTES: usize = 18;
 const ND_BYTES: usize = 45;
 const LK_BYTES: usize = 49;
 
 /// Refusal 1 and the fields.
 fn read(bytes: &[u8]) -> Result<Sheet, Refusal> {
     let mut at = 0;
-    // 0: OP wanted, 1: ND or LK, 2: LK
+    // 0: OP wanted, 1: PD, ND or LK, 2: ND or LK, 3: LK
     let mut stage = 0;
     let mut sheet = Sheet {
         accuracy: 0.0,
@@ -85,6 +95,7 @@ fn read(bytes: &[u8]) -> Result<Sheet, Refusal> {
         max_flow_change: 0.0,
         trials: 0,
         unit: 0,
+        pressures: None,
         nodes: vec![],
         links: vec![],
     };
@@ -98,8 +109,9 @@ fn read(bytes: &[u8]) -> Result<Sheet, Refusal> {
         }
         let (length, next) = match (&rest[..2], stage) {
             (b"OP", 0) => (OP_BYTES, 1),
-            (b"ND", 1) => (ND_BYTES, 1),
-            (b"LK", 1 | 2) => (LK_BYTES, 2),
+            (b"PD", 1) => (PD_BYTES, 2),
+            (b"ND", 1 | 2) => (ND_BYTES, 2),
+            (b"LK", _) if stage > 0 => (LK_BYTES, 3),
             _ => return refuse(1, at),
         };
         if rest.len() < length {
@@ -113,6 +125,13 @@ fn read(bytes: &[u8]) -> Result<Sheet, Refusal> {
                 sheet.max_flow_change = f.f64();
                 sheet.trials = f.u16();
                 sheet.unit = f.u8();
+            }
+            b"PD" => {
+                sheet.pressures = Some(Pressures {
+                    at,
+                    minimum: f.f64(),
+                    required: f.f64(),
+                });
             }
             b"ND" => sheet.nodes.push(SheetNode {
                 at,
@@ -172,6 +191,11 @@ impl Sheet {
             && s.unit <= 10)
         {
             return refuse(3, 0);
+        }
+        if let Some(p) = s.pressures
+            && !(bounded(p.minimum) && bounded(p.required) && p.required >= p.minimum)
+        {
+            return refuse(3, p.at);
         }
         for n in &s.nodes {
             let floats = [n.elevation, n.demand, n.head, n.max_level, n.min_level];

@@ -1,69 +1,23 @@
 -- `bends::add_bends` meets its contract. Assumes nothing.
-use Rattle.bends.proofs.Laws.{Bent, none-bent, next-bent, bent-whole}
 use borrow.Author.Needs.{needs}
-use native.Mathlib.Omega.{arith}
-use Prim.Native.Nat.{ℕ, suc, _+_, _*_, _-_, _≤_, _<_}
-use mathlib.Core.Path.{_≡_, refl, sym, ap, _∙_}
-use native.Mathlib.Numerals.{add-one}
-use lib.ListN.{length, getD, set, length-set}
+use Rattle.layout.proofs.Laws.{pressures-within}
+use Rattle.bends.proofs.Laws.{bent-pressures, bent-none}
 use Rattle.bends.proofs.add_bends.Statement.{statement}
 use Rattle.bends.proofs.add_bends.Tie as tie
-use Rattle.bends.proofs.add_bends.Reads as reads
-use Rattle.bends.proofs.add_bends.Lts as lts
-use Rattle.bends.proofs.bend_node.Reads as bend-node-reads
 
-abbrev Inv-loop : tie.InvT-loop
-Inv-loop sheet l p unknowns asked drawn matrix₀ rhs₀ i₀ i-end matrix rhs i = Bent sheet l p asked drawn matrix₀ rhs₀ matrix rhs i
+pressures-of-requires : tie.Need-pressures-of-requires
+pressures-of-requires c κs =
+    let start = c .before .before .before .before .before .before .before in
+    pressures-within _ _ (start .pre .0 .laid) (c .if1 .taken)
 
-abbrev μ-loop : tie.MeasureT-loop
-μ-loop sheet l p unknowns asked drawn matrix₀ rhs₀ i₀ i-end matrix rhs i = l .nodes - i
-
-loop-holds : tie.Need-loop-holds Inv-loop μ-loop
-loop-holds c = none-bent _ _ _ _ _ _ _
-
-bend-node-requires : tie.Need-bend-node-requires Inv-loop μ-loop
-bend-node-requires c κs =
-    let t = c .before .before in
-    let o = t .before in
-    let s = o .before .before .before .before .before .before .before in
-    (s .pre .0, (o .loop .inv .m-long ∙ s .pre .1 .0, (omega (arith, o .loop .inv .r-long, s .pre .1 .1), t .loop-test .taken)))
-
-add-i : tie.Need-add-i Inv-loop μ-loop
-add-i c = omega arith
-
-loop-less : tie.Need-loop-less Inv-loop μ-loop
-loop-less c = omega arith
-
-loop-again : tie.Need-loop-again Inv-loop μ-loop
-loop-again c =
-    let k = c .before .before .before .before in
-    let t = k .before .before .before in
-    next-bent _ _ _ _ _ _ _ _ _ _ _ _ (t .before .loop .inv) (t .loop-test .taken) (k .bend-node .ensures .0) (k .bend-node .ensures .1) (omega (arith, k .bend-node .kept)) (omega (arith, k .bend-node .kept))
-
-same-length : tie.Need-same-length Inv-loop μ-loop
-same-length c = c .before .loop .inv .m-long
-
-same-length-2 : tie.Need-same-length-2 Inv-loop μ-loop
-same-length-2 c = c .before .loop .inv .r-long
-
-returns : tie.Need-returns Inv-loop μ-loop
+returns : tie.Need-returns
 returns c =
-    let o = c .before in
-    let a = o .before .before .before .before .before .before .before .args in
-    let e : o .loop .i ≡ a .l .nodes = omega (arith, o .loop .inv .upto, c .loop-test .left) in
-    bent-whole _ _ _ _ _ _ _ _ _ _ e (o .loop .inv)
+    let b = c .before .before .before .before in
+    let p = b .before .before .before in
+    bent-pressures _ _ _ _ _ _ _ _ _ (p .before .if1 .taken) (p .pressures-of .ensures) (b .bend-nodes .ensures .0) (b .bend-nodes .ensures .1)
+
+returns-2 : tie.Need-returns-2
+returns-2 c = bent-none _ _ _ _ _ _ (c .if1 .left)
 
 pub add-bends-spec : {M : Type 1} → statement M
-add-bends-spec =
-    tie.close
-    (tie.spec
-    Inv-loop
-    μ-loop
-    loop-holds
-    bend-node-requires
-    add-i
-    loop-less
-    loop-again
-    same-length
-    same-length-2
-    returns)
+add-bends-spec = tie.close (tie.spec pressures-of-requires (λ c κs. search needs) (λ c. search needs) (λ c. search needs) returns returns-2)

@@ -22,11 +22,14 @@ use Rattle.numbering.proofs.unknown_of.Reads as unknown-of-reads
 in-service-requires : tie.Need-in-service-requires
 in-service-requires c κs = search needs
 
-mul-if1 : tie.Need-mul-if1
-mul-if1 c = search needs
+mul-gives-way : tie.Need-mul-gives-way
+mul-gives-way c = search needs
 
-shared-slice-read-if1 : tie.Need-shared-slice-read-if1
-shared-slice-read-if1 c = search needs
+shared-slice-read-gives-way : tie.Need-shared-slice-read-gives-way
+shared-slice-read-gives-way c = search needs
+
+gives-way-requires : tie.Need-gives-way-requires
+gives-way-requires c κs = search needs
 
 unknown-of-requires : tie.Need-unknown-of-requires
 unknown-of-requires c κs = search needs
@@ -55,7 +58,7 @@ elevation-requires c κs = search needs
 add-bend-requires : tie.Need-add-bend-requires
 add-bend-requires c κs =
     let w = c .before .before .before .before .before .before .before in
-    let s = w .before .before .before .before .before .before .before .before .before .before in
+    let s = w .before .before .before .before .before .before .before .before .before .before .before in
     let row = w .unknown-of .ensures ∙ s .pre .0 .rows .right _ (s .pre .1 .1 .1) in
     ((s .pre .1 .0, s .pre .1 .1 .0), row-below _ _ _ _ _ row (s .pre .1 .1 .1) (s .pre .0 .few))
 
@@ -73,21 +76,25 @@ returns c =
     let r = bend .before in
     let w = r .before .before .before in
     let t = w .before in
-    let v = t .before .before in
+    let g = t .before in
+    let v = g .before .before in
     let s = v .before .before .before .before .before .before .before in
     let row = w .unknown-of .ensures ∙ s .pre .0 .rows .right _ (s .pre .1 .1 .1) in
-    node-bent _ _ _ _ _ _ _ _ _ _ _ _ _ _ _ (v .in-service .ensures) (t .if1 .taken) row (r .pressure-range .ensures) (bend .bend-of .ensures) (u .elevation .ensures) (k .add-bend .ensures .0) (k .add-bend .ensures .1)
+    node-bent _ _ _ _ _ _ _ _ _ _ _ _ _ _ _ _ (v .in-service .ensures) (g .gives-way .ensures) (t .if1 .taken) row (r .pressure-range .ensures) (bend .bend-of .ensures) (u .elevation .ensures) (k .add-bend .ensures .0) (k .add-bend .ensures .1)
 
 returns-2 : tie.Need-returns-2
-returns-2 c = node-straight _ _ _ _ _ _ _ _ _ (c .before .before .in-service .ensures) (c .if1 .left)
+returns-2 c =
+    let g = c .before in
+    node-straight _ _ _ _ _ _ _ _ _ _ (g .before .before .in-service .ensures) (g .gives-way .ensures) (c .if1 .left)
 
 pub bend-node-spec : {M : Type 1} → statement M
 bend-node-spec =
     tie.close
     (tie.spec
     in-service-requires
-    mul-if1
-    shared-slice-read-if1
+    mul-gives-way
+    shared-slice-read-gives-way
+    gives-way-requires
     unknown-of-requires
     mul-bend-of
     shared-slice-read-bend-of

@@ -28,11 +28,14 @@ returns c =
 in-service-requires : tie.Need-in-service-requires
 in-service-requires c κs = search needs
 
-mul-if2 : tie.Need-mul-if2
-mul-if2 c = search needs
+mul-gives-way : tie.Need-mul-gives-way
+mul-gives-way c = search needs
 
-shared-slice-read-if2 : tie.Need-shared-slice-read-if2
-shared-slice-read-if2 c = search needs
+shared-slice-read-gives-way : tie.Need-shared-slice-read-gives-way
+shared-slice-read-gives-way c = search needs
+
+gives-way-requires : tie.Need-gives-way-requires
+gives-way-requires c κs = search needs
 
 bend-node-requires : tie.Need-bend-node-requires
 bend-node-requires c κs = search needs
@@ -44,11 +47,12 @@ returns-2 : tie.Need-returns-2
 returns-2 c =
     let m = c .before .before in
     let t = m .before .before in
-    let s = t .before .before in
+    let g = t .before in
+    let s = g .before .before in
     let o = s .before in
     let e = o .before in
     let a = e .before .before .before .before .before .args in
-    node-bends _ _ _ _ _ _ _ (draws (a .drawn .now) (a .stats)) _ (s .in-service .result) (e .is-enabled .ensures) (s .in-service .ensures) (o .if1 .left) _ (t .if2 .taken) (m .bend-node .ensures)
+    node-bends _ _ _ _ _ _ _ (draws (a .drawn .now) (a .stats)) _ (s .in-service .result) (e .is-enabled .ensures) _ (s .in-service .ensures) (g .gives-way .ensures) (o .if1 .left) _ (t .if2 .taken) (m .bend-node .ensures)
 
 mul-drawn : tie.Need-mul-drawn
 mul-drawn c = search needs
@@ -68,11 +72,12 @@ same-length-2 c = search needs
 returns-3 : tie.Need-returns-3
 returns-3 c =
     let t = c .before in
-    let s = t .before .before in
+    let g = t .before in
+    let s = g .before .before in
     let o = s .before in
     let e = o .before in
     let a = e .before .before .before .before .before .args in
-    node-copied _ _ _ _ _ _ _ (draws (a .drawn .now) (a .stats)) _ (s .in-service .result) (e .is-enabled .ensures) (s .in-service .ensures) (o .if1 .left) (t .if2 .left)
+    node-copied _ _ _ _ _ _ _ (draws (a .drawn .now) (a .stats)) _ (s .in-service .result) (e .is-enabled .ensures) _ (s .in-service .ensures) (g .gives-way .ensures) (o .if1 .left) (t .if2 .left)
 
 pub draw-node-spec : {M : Type 1} → statement M
 draw-node-spec =
@@ -81,8 +86,9 @@ draw-node-spec =
     is-enabled-requires
     returns
     in-service-requires
-    mul-if2
-    shared-slice-read-if2
+    mul-gives-way
+    shared-slice-read-gives-way
+    gives-way-requires
     bend-node-requires
     same-length
     returns-2

@@ -1,67 +1,27 @@
 -- `drawn::update_drawn` meets its contract. Assumes nothing.
-use Rattle.drawn.specs.Drawn.{draws}
-use Rattle.drawn.proofs.Laws.{Drawn, none-drawn, next-drawn, drawn-whole}
 use borrow.Author.Needs.{needs}
-use native.Mathlib.Omega.{arith}
-use Prim.Native.Nat.{ℕ, suc, _+_, _*_, _-_, _≤_, _<_}
-use mathlib.Core.Path.{_≡_}
-use native.Mathlib.Numerals.{add-one}
-use lib.ListN.{length, getD, set, length-set}
+use Rattle.layout.proofs.Laws.{pressures-within}
+use Rattle.drawn.specs.Drawn.{draws}
+use Rattle.drawn.proofs.Laws.{drawn-pressures, drawn-none}
 use Rattle.drawn.proofs.update_drawn.Statement.{statement}
 use Rattle.drawn.proofs.update_drawn.Tie as tie
-use Rattle.drawn.proofs.update_drawn.Reads as reads
-use Rattle.drawn.proofs.update_drawn.Lts as lts
-use Rattle.drawn.proofs.draw_node.Reads as draw-node-reads
 
-abbrev Inv-loop : tie.InvT-loop
-Inv-loop sheet l p heads factor asked drawn₀ moved₀ i₀ i-end drawn moved i = Drawn sheet l p heads factor asked drawn₀ moved₀ drawn moved i
+pressures-of-requires : tie.Need-pressures-of-requires
+pressures-of-requires c κs =
+    let start = c .before .before .before .before .before in
+    pressures-within _ _ (start .pre .0) (c .if1 .taken)
 
-abbrev μ-loop : tie.MeasureT-loop
-μ-loop sheet l p heads factor asked drawn₀ moved₀ i₀ i-end drawn moved i = l .nodes - i
-
-loop-holds : tie.Need-loop-holds Inv-loop μ-loop
-loop-holds c = none-drawn _ _ _ _ _ _ _ _
-
-draw-node-requires : tie.Need-draw-node-requires Inv-loop μ-loop
-draw-node-requires c κs =
-    let t = c .before in
-    let o = t .before in
-    let s = o .before .before .before .before .before in
-    let r = s .pre .1 in
-    (s .pre .0, (t .loop-test .taken, (r .0, (r .1 .0, omega (arith, r .1 .1, o .loop .inv .long)))))
-
-add-i : tie.Need-add-i Inv-loop μ-loop
-add-i c = omega arith
-
-loop-less : tie.Need-loop-less Inv-loop μ-loop
-loop-less c = omega arith
-
-loop-again : tie.Need-loop-again Inv-loop μ-loop
-loop-again c =
-    let d = c .before .before in
-    let t = d .before .before in
-    next-drawn _ _ _ _ _ _ _ _ _ _ _ _ _ (t .before .loop .inv) (t .loop-test .taken) (d .draw-node .ensures) (omega (arith, d .draw-node .kept))
-
-same-length : tie.Need-same-length Inv-loop μ-loop
-same-length c = c .before .loop .inv .long
-
-returns : tie.Need-returns Inv-loop μ-loop
+returns : tie.Need-returns
 returns c =
-    let o = c .before in
-    let a = o .before .before .before .before .before .args in
-    let e : o .loop .i ≡ a .l .nodes = omega (arith, o .loop .inv .upto, c .loop-test .left) in
-    drawn-whole _ _ _ _ _ _ _ (draws (a .drawn .now) (a .stats)) _ e (o .loop .inv .made)
+    let d = c .before .before in
+    let p = d .before .before in
+    let a = p .before .before .before .before .before .before .args in
+    drawn-pressures _ _ _ _ _ _ (draws (a .drawn .now) (a .stats)) _ (p .before .if1 .taken) (p .pressures-of .ensures) (d .draw-nodes .ensures)
+
+returns-2 : tie.Need-returns-2
+returns-2 c =
+    let a = c .before .before .before .before .before .args in
+    drawn-none _ _ _ _ _ (draws (a .drawn .now) (a .stats)) (c .if1 .left)
 
 pub update-drawn-spec : {M : Type 1} → statement M
-update-drawn-spec =
-    tie.close
-    (tie.spec
-    Inv-loop
-    μ-loop
-    loop-holds
-    draw-node-requires
-    add-i
-    loop-less
-    loop-again
-    same-length
-    returns)
+update-drawn-spec = tie.close (tie.spec pressures-of-requires (λ c κs. search needs) (λ c. search needs) returns returns-2)

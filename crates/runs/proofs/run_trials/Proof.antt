@@ -14,28 +14,28 @@ use Rattle.runs.proofs.run_trials.Statement.{statement}
 use Rattle.runs.proofs.run_trials.Tie as tie
 
 abbrev Inv-loop : tie.InvT-loop
-Inv-loop sheet l trials unknowns table heads₀ demands₀ flows₀ statuses₀ grounded₀ entries₀ scratch₀ d₀ tally₀ i₀ heads demands flows statuses grounded entries scratch d tally i =
-    Kept (state heads₀ demands₀ flows₀ statuses₀ grounded₀) (state heads demands flows statuses grounded) entries₀ entries scratch₀ scratch
+Inv-loop sheet l trials unknowns table heads₀ demands₀ drawn₀ flows₀ statuses₀ grounded₀ entries₀ scratch₀ d₀ tally₀ i₀ heads demands drawn flows statuses grounded entries scratch d tally i =
+    Kept (state heads₀ demands₀ drawn₀ flows₀ statuses₀ grounded₀) (state heads demands drawn flows statuses grounded) entries₀ entries scratch₀ scratch
     × (i ≤ trials)
     × (tally .trials ≡ i)
     × (tally .freed ≤ i)
     × (tally .grounded ≤ i)
-    × (finish i tally entries (runWith repairOf sheet l (trials - i) d (state heads demands flows statuses grounded))
-    ≡ finish 0 none entries₀ (runWith repairOf sheet l trials dampingStart (state heads₀ demands₀ flows₀ statuses₀ grounded₀)))
+    × (finish i tally entries (runWith repairOf sheet l (trials - i) d (state heads demands drawn flows statuses grounded))
+    ≡ finish 0 none entries₀ (runWith repairOf sheet l trials dampingStart (state heads₀ demands₀ drawn₀ flows₀ statuses₀ grounded₀)))
 
 abbrev μ-loop : tie.MeasureT-loop
-μ-loop sheet l trials unknowns table heads₀ demands₀ flows₀ statuses₀ grounded₀ entries₀ scratch₀ d₀ tally₀ i₀ heads demands flows statuses grounded entries scratch d tally i =
+μ-loop sheet l trials unknowns table heads₀ demands₀ drawn₀ flows₀ statuses₀ grounded₀ entries₀ scratch₀ d₀ tally₀ i₀ heads demands drawn flows statuses grounded entries scratch d tally i =
     trials - i
 
 -- the places of a turn
 abbrev start-of : tie.At-loop Inv-loop μ-loop → tie.Start Inv-loop μ-loop
-start-of l = l .before .before .before .before .before .before .before .before .before .before .before
+start-of l = l .before .before .before .before .before .before .before .before .before .before .before .before
 
 abbrev loop-of : tie.After-trial Inv-loop μ-loop → tie.At-loop Inv-loop μ-loop
-loop-of t = t .before .before .before .before .before .before .before .before
+loop-of t = t .before .before .before .before .before .before .before .before .before
 
 abbrev trial-of : tie.After-put Inv-loop μ-loop → tie.After-trial Inv-loop μ-loop
-trial-of p = p .before .before .before .before .before .before .before .before .before .before .before .before .before .before .before
+trial-of p = p .before .before .before .before .before .before .before .before .before .before .before .before .before .before .before .before .before
 
 abbrev put-of : tie.After-count Inv-loop μ-loop → tie.After-put Inv-loop μ-loop
 put-of k = k .before .before .before
@@ -52,7 +52,7 @@ loop-holds c =
 
 trial-requires : tie.Need-trial-requires Inv-loop μ-loop
 trial-requires c κs =
-    let l = c .before .before .before .before .before .before .before in
+    let l = c .before .before .before .before .before .before .before .before in
     let start = start-of l in
     (start .pre .0, (start .pre .1 .0, (start .pre .1 .1 .0, (kept-room _ _ _ _ _ _ _ (l .loop .inv .0) (start .pre .1 .1 .1 .0), omega (arith, l .loop .inv .0 .scratch, start .pre .1 .1 .1 .1 .1 .1)))))
 
@@ -61,22 +61,22 @@ marked-requires c κs = search needs
 
 put-requires : tie.Need-put-requires Inv-loop μ-loop
 put-requires c κs =
-    let t = c .before .before .before .before .before .before .before .before .before .before .before .before .before .before in
+    let t = c .before .before .before .before .before .before .before .before .before .before .before .before .before .before .before .before in
     let l = loop-of t in
     let start = start-of l in
-    omega (arith, l .loop .inv .0 .entries, l .loop .inv .1, t .before .before .before .before .before .before .before .loop-test .taken, start .pre .1 .1 .1 .1)
+    omega (arith, l .loop .inv .0 .entries, l .loop .inv .1, t .before .before .before .before .before .before .before .before .loop-test .taken, start .pre .1 .1 .1 .1)
 
 count-requires : tie.Need-count-requires Inv-loop μ-loop
 count-requires c κs =
     let t = trial-of (c .before .before) in
     let l = loop-of t in
     let start = start-of l in
-    omega (arith, l .loop .inv .2, l .loop .inv .3, l .loop .inv .4, t .before .before .before .before .before .before .before .loop-test .taken, start .pre .1 .1 .1 .1)
+    omega (arith, l .loop .inv .2, l .loop .inv .3, l .loop .inv .4, t .before .before .before .before .before .before .before .before .loop-test .taken, start .pre .1 .1 .1 .1)
 
 add-i : tie.Need-add-i Inv-loop μ-loop
 add-i c =
     let t = trial-of (put-of c) in
-    omega (arith, t .before .before .before .before .before .before .before .loop-test .taken, start-of (loop-of t) .pre .1 .1 .1 .1)
+    omega (arith, t .before .before .before .before .before .before .before .before .loop-test .taken, start-of (loop-of t) .pre .1 .1 .1 .1)
 
 go-requires : tie.Need-go-requires Inv-loop μ-loop
 go-requires c κs = search needs
@@ -87,7 +87,7 @@ enum-known-next c = search needs
 loop-less : tie.Need-loop-less Inv-loop μ-loop
 loop-less c =
     let t = trial-of (put-of (c .before .before .before .before)) in
-    omega (arith, t .before .before .before .before .before .before .before .loop-test .taken)
+    omega (arith, t .before .before .before .before .before .before .before .before .loop-test .taken)
 
 loop-again : tie.Need-loop-again Inv-loop μ-loop
 loop-again c =
@@ -101,17 +101,18 @@ loop-again c =
       record {
         heads = u .0 ∙ v .heads;
         demands = u .1 .0 ∙ v .demands;
-        flows = u .1 .1 .0 ∙ v .flows;
-        statuses = u .1 .1 .1 .0 ∙ v .statuses;
-        grounded = u .1 .1 .1 .1 .0 ∙ v .grounded;
+        drawn = u .1 .1 .0 ∙ v .drawn;
+        flows = u .1 .1 .1 .0 ∙ v .flows;
+        statuses = u .1 .1 .1 .1 .0 ∙ v .statuses;
+        grounded = u .1 .1 .1 .1 .1 .0 ∙ v .grounded;
         entries = p .put .kept .0 ∙ v .entries;
-        scratch = u .1 .1 .1 .1 .1 .0 ∙ v .scratch;
+        scratch = u .1 .1 .1 .1 .1 .1 .0 ∙ v .scratch;
       },
-      omega (arith, t .before .before .before .before .before .before .before .loop-test .taken),
+      omega (arith, t .before .before .before .before .before .before .before .before .loop-test .taken),
       rw (k .count .ensures) (omega (arith, b, l .loop .inv .2)),
       rw (k .count .ensures) (omega (arith, b, l .loop .inv .3)),
       rw (k .count .ensures) (omega (arith, b, l .loop .inv .4)),
-      run-on _ _ _ _ _ _ _ _ _ _ _ _ _ _ _ _ (t .before .before .before .before .before .before .before .loop-test .taken) (t .trial .ensures .0) (p .before .marked .ensures) (p .put .ensures) (k .count .ensures) (c .before .before .before .go .ensures) (c .before .next .given .1) ∙ l .loop .inv .5,
+      run-on _ _ _ _ _ _ _ _ _ _ _ _ _ _ _ _ (t .before .before .before .before .before .before .before .before .loop-test .taken) (t .trial .ensures .0) (p .before .marked .ensures) (p .put .ensures) (k .count .ensures) (c .before .before .before .go .ensures) (c .before .next .given .1) ∙ l .loop .inv .5,
     )
 
 enum-known-ended : tie.Need-enum-known-ended Inv-loop μ-loop
@@ -121,56 +122,48 @@ clear-requires : tie.Need-clear-requires Inv-loop μ-loop
 clear-requires c κs =
     let t = trial-of (put-of (c .before .before .before .before .before)) in
     let l = loop-of t in
-    omega (arith, t .trial .kept .1 .1 .1 .1 .1 .1 .1 .1 .1 .1 .0, l .loop .inv .0 .scratch, start-of l .pre .1 .1 .1 .1 .1 .1)
+    omega (arith, t .trial .kept .1 .1 .1 .1 .1 .1 .1 .1 .1 .1 .1 .0, l .loop .inv .0 .scratch, start-of l .pre .1 .1 .1 .1 .1 .1)
 
 same-length : tie.Need-same-length Inv-loop μ-loop
 same-length c =
-    let w = c .before .before in
-    let p = put-of (turn-of w .before) in
-    let t = trial-of p in
+    let t = trial-of (put-of (turn-of (c .before .before) .before)) in
     t .trial .kept .1 .1 .1 .1 .1 .0 ∙ loop-of t .loop .inv .0 .heads
 
 same-length-2 : tie.Need-same-length-2 Inv-loop μ-loop
 same-length-2 c =
-    let w = c .before .before in
-    let p = put-of (turn-of w .before) in
-    let t = trial-of p in
+    let t = trial-of (put-of (turn-of (c .before .before) .before)) in
     t .trial .kept .1 .1 .1 .1 .1 .1 .0 ∙ loop-of t .loop .inv .0 .demands
 
 same-length-3 : tie.Need-same-length-3 Inv-loop μ-loop
 same-length-3 c =
-    let w = c .before .before in
-    let p = put-of (turn-of w .before) in
-    let t = trial-of p in
-    t .trial .kept .1 .1 .1 .1 .1 .1 .1 .0 ∙ loop-of t .loop .inv .0 .flows
+    let t = trial-of (put-of (turn-of (c .before .before) .before)) in
+    t .trial .kept .1 .1 .1 .1 .1 .1 .1 .0 ∙ loop-of t .loop .inv .0 .drawn
 
 same-length-4 : tie.Need-same-length-4 Inv-loop μ-loop
 same-length-4 c =
-    let w = c .before .before in
-    let p = put-of (turn-of w .before) in
-    let t = trial-of p in
-    t .trial .kept .1 .1 .1 .1 .1 .1 .1 .1 .0 ∙ loop-of t .loop .inv .0 .statuses
+    let t = trial-of (put-of (turn-of (c .before .before) .before)) in
+    t .trial .kept .1 .1 .1 .1 .1 .1 .1 .1 .0 ∙ loop-of t .loop .inv .0 .flows
 
 same-length-5 : tie.Need-same-length-5 Inv-loop μ-loop
 same-length-5 c =
-    let w = c .before .before in
-    let p = put-of (turn-of w .before) in
-    let t = trial-of p in
-    t .trial .kept .1 .1 .1 .1 .1 .1 .1 .1 .1 .0 ∙ loop-of t .loop .inv .0 .grounded
+    let t = trial-of (put-of (turn-of (c .before .before) .before)) in
+    t .trial .kept .1 .1 .1 .1 .1 .1 .1 .1 .1 .0 ∙ loop-of t .loop .inv .0 .statuses
 
 same-length-6 : tie.Need-same-length-6 Inv-loop μ-loop
 same-length-6 c =
-    let w = c .before .before in
-    let p = put-of (turn-of w .before) in
-    let t = trial-of p in
-    p .put .kept .0 ∙ loop-of t .loop .inv .0 .entries
+    let t = trial-of (put-of (turn-of (c .before .before) .before)) in
+    t .trial .kept .1 .1 .1 .1 .1 .1 .1 .1 .1 .1 .0 ∙ loop-of t .loop .inv .0 .grounded
 
 same-length-7 : tie.Need-same-length-7 Inv-loop μ-loop
 same-length-7 c =
+    let p = put-of (turn-of (c .before .before) .before) in
+    p .put .kept .0 ∙ loop-of (trial-of p) .loop .inv .0 .entries
+
+same-length-8 : tie.Need-same-length-8 Inv-loop μ-loop
+same-length-8 c =
     let w = c .before .before in
-    let p = put-of (turn-of w .before) in
-    let t = trial-of p in
-    w .clear .kept .1 .0 ∙ t .trial .kept .1 .1 .1 .1 .1 .1 .1 .1 .1 .1 .0 ∙ loop-of t .loop .inv .0 .scratch
+    let t = trial-of (put-of (turn-of w .before)) in
+    w .clear .kept .1 .0 ∙ t .trial .kept .1 .1 .1 .1 .1 .1 .1 .1 .1 .1 .1 .0 ∙ loop-of t .loop .inv .0 .scratch
 
 returns : tie.Need-returns Inv-loop μ-loop
 returns c =
@@ -180,8 +173,8 @@ returns c =
     let p = put-of k in
     let t = trial-of p in
     let l = loop-of t in (
-      run-over _ _ _ _ _ _ _ _ _ _ _ _ _ _ _ _ (t .before .before .before .before .before .before .before .loop-test .taken) (t .trial .ensures .0) (p .before .marked .ensures) (p .put .ensures) (k .count .ensures) (g .go .ensures) (w .before .before .before .ended .given .1) ∙ l .loop .inv .5,
-      w .clear .ensures ∙ cleared-zeros 4096 _ (t .trial .kept .1 .1 .1 .1 .1 .1 .1 .1 .1 .1 .0 ∙ l .loop .inv .0 .scratch ∙ start-of l .pre .1 .1 .1 .1 .1 .1),
+      run-over _ _ _ _ _ _ _ _ _ _ _ _ _ _ _ _ (t .before .before .before .before .before .before .before .before .loop-test .taken) (t .trial .ensures .0) (p .before .marked .ensures) (p .put .ensures) (k .count .ensures) (g .go .ensures) (w .before .before .before .ended .given .1) ∙ l .loop .inv .5,
+      w .clear .ensures ∙ cleared-zeros 4096 _ (t .trial .kept .1 .1 .1 .1 .1 .1 .1 .1 .1 .1 .1 .0 ∙ l .loop .inv .0 .scratch ∙ start-of l .pre .1 .1 .1 .1 .1 .1),
     )
 
 clear-requires-2 : tie.Need-clear-requires-2 Inv-loop μ-loop
@@ -189,38 +182,29 @@ clear-requires-2 c κs =
     let l = c .before .before in
     omega (arith, l .loop .inv .0 .scratch, start-of l .pre .1 .1 .1 .1 .1 .1)
 
-same-length-8 : tie.Need-same-length-8 Inv-loop μ-loop
-same-length-8 c =
-    let w = c .before .before in
-    w .before .before .before .loop .inv .0 .heads
-
 same-length-9 : tie.Need-same-length-9 Inv-loop μ-loop
-same-length-9 c =
-    let w = c .before .before in
-    w .before .before .before .loop .inv .0 .demands
+same-length-9 c = c .before .before .before .before .before .loop .inv .0 .heads
 
 same-length-10 : tie.Need-same-length-10 Inv-loop μ-loop
-same-length-10 c =
-    let w = c .before .before in
-    w .before .before .before .loop .inv .0 .flows
+same-length-10 c = c .before .before .before .before .before .loop .inv .0 .demands
 
 same-length-11 : tie.Need-same-length-11 Inv-loop μ-loop
-same-length-11 c =
-    let w = c .before .before in
-    w .before .before .before .loop .inv .0 .statuses
+same-length-11 c = c .before .before .before .before .before .loop .inv .0 .drawn
 
 same-length-12 : tie.Need-same-length-12 Inv-loop μ-loop
-same-length-12 c =
-    let w = c .before .before in
-    w .before .before .before .loop .inv .0 .grounded
+same-length-12 c = c .before .before .before .before .before .loop .inv .0 .flows
 
 same-length-13 : tie.Need-same-length-13 Inv-loop μ-loop
-same-length-13 c =
-    let w = c .before .before in
-    w .before .before .before .loop .inv .0 .entries
+same-length-13 c = c .before .before .before .before .before .loop .inv .0 .statuses
 
 same-length-14 : tie.Need-same-length-14 Inv-loop μ-loop
-same-length-14 c =
+same-length-14 c = c .before .before .before .before .before .loop .inv .0 .grounded
+
+same-length-15 : tie.Need-same-length-15 Inv-loop μ-loop
+same-length-15 c = c .before .before .before .before .before .loop .inv .0 .entries
+
+same-length-16 : tie.Need-same-length-16 Inv-loop μ-loop
+same-length-16 c =
     let w = c .before .before in
     w .clear2 .kept .1 .0 ∙ w .before .before .before .loop .inv .0 .scratch
 
@@ -258,13 +242,15 @@ run-trials-spec =
     same-length-5
     same-length-6
     same-length-7
+    same-length-8
     returns
     clear-requires-2
-    same-length-8
     same-length-9
     same-length-10
     same-length-11
     same-length-12
     same-length-13
     same-length-14
+    same-length-15
+    same-length-16
     returns-2)

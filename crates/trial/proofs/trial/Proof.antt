@@ -1,9 +1,11 @@
 -- `trial::trial` meets its contract: the calls in their order, put together by one law. Assumes nothing.
 use Prim.Native.Nat.{_≤_}
 use native.Mathlib.Omega.{arith}
-use mathlib.Core.Path.{_≡_, ap}
+use mathlib.Core.Path.{_≡_, sym, ap, subst, _∙_}
 use mathlib.Core.List.{List}
+use lib.ListN.{length}
 use lib.Ieee.{Float}
+use Rattle.drawing.proofs.Laws.{counting-long}
 use borrow.Author.Needs.{needs}
 use Rattle.numbering.proofs.Numbers.{at-most}
 use Rattle.columns.specs.Columns.{zeros}
@@ -15,11 +17,14 @@ use Rattle.trial.proofs.trial.Statement.{statement}
 use Rattle.trial.proofs.trial.Tie as tie
 
 -- the places of a trial
-abbrev start-of : tie.After-excess-flows → tie.Start
-start-of e = e .before .before .before .before .before .before .before .before .before .before .before .before
+abbrev start-of : tie.After-counts → tie.Start
+start-of k = k .before .before .before .before .before .before .before .before .before .before .before .before
+
+abbrev counts-of : tie.After-excess-flows → tie.After-counts
+counts-of e = e .before .before .before
 
 abbrev excess-of : tie.After-assemble → tie.After-excess-flows
-excess-of a = a .before .before .before .before .before .before .before .before .before .before .before .before
+excess-of a = a .before .before .before .before .before .before .before .before .before .before .before .before .before
 
 abbrev assemble-of : tie.After-factor → tie.After-assemble
 assemble-of f = f .before .before .before .before .before .before .before
@@ -27,18 +32,18 @@ assemble-of f = f .before .before .before .before .before .before .before
 -- the state before the trial, the system that was assembled, and that it is the state's
 module _ (a : tie.After-assemble) where
   abbrev start : tie.Start
-  start = start-of (excess-of a)
+  start = start-of (counts-of (excess-of a))
 
   abbrev was : State
-  was = let v = start .args in state (v .heads .now) (v .demands .now) (v .flows .now) (v .statuses .now) (v .grounded .now)
+  was = let v = start .args in state (v .heads .now) (v .demands .now) (v .drawn .now) (v .flows .now) (v .statuses .now) (v .grounded .now)
 
   abbrev filled : System
-  filled = let x = a .assemble .last .1 .1 .1 .1 .1 .1 .1 .1 .1 .1 in system (x .0) (x .1 .0) (x .1 .1 .0) (x .1 .1 .1 .0)
+  filled = let x = a .assemble .last .1 .1 .1 .1 .1 .1 .1 .1 .1 .1 .1 in system (x .0) (x .1 .0) (x .1 .1 .0) (x .1 .1 .1 .0)
 
   assembled : filled ≡ systemOf (start .args .sheet .now) (start .args .l) was
   unfolding zeros
   assembled =
-      system-of (start .args .sheet .now) (start .args .l) was (start .args .scratch .now) (excess-of a .excess-flows .last .1 .1 .1 .1 .0) (filled .matrix) (filled .rhs) (filled .g) (filled .y) (start .pre .1 .1 .1 .1) (excess-of a .excess-flows .ensures) (a .assemble .ensures)
+      system-of (start .args .sheet .now) (start .args .l) was (start .args .scratch .now) _ (excess-of a .excess-flows .last .1 .1 .1 .1 .0) (filled .matrix) (filled .rhs) (filled .g) (filled .y) (start .pre .1 .1 .1 .1) (counts-of (excess-of a) .counts .ensures) (excess-of a .excess-flows .ensures) (a .assemble .ensures)
 
   -- the matrix has room for the unknowns
   few : start .args .l .unknowns ≤ 64
@@ -46,14 +51,16 @@ module _ (a : tie.After-assemble) where
 
 excess-flows-requires : tie.Need-excess-flows-requires
 excess-flows-requires c κs =
-    let s = c .before .before .before .before .before .before .before .before .before .before .before in
+    let k = c .before .before in
+    let s = start-of k in
     let room = s .pre .1 .1 .1 .0 in
-    (s .pre .0 .laid, (s .pre .0 .ends, omega (arith, s .pre .0 .nodes, room .demands, room .flows)))
+    let long = subst (λ (x : List Float). s .args .l .nodes ≤ length x) (sym (k .counts .ensures)) (counting-long _ _ _ _ (room .drawn) (room .demands)) in
+    (s .pre .0 .laid, (s .pre .0 .ends, (long, omega (arith, s .pre .0 .nodes, room .flows))))
 
 assemble-requires : tie.Need-assemble-requires
 assemble-requires c κs =
-    let e = c .before .before .before .before .before .before .before .before .before .before .before in
-    let s = start-of e in
+    let e = c .before .before .before .before .before .before .before .before .before .before .before .before in
+    let s = start-of (counts-of e) in
     let net = s .pre .0 in
     let room = s .pre .1 .1 .1 .0 in (
       record {
@@ -70,7 +77,7 @@ assemble-requires c κs =
       },
       (
         record { matrix = s .pre .1 .1 .1 .1; rhs = omega arith; g = omega (arith, net .links); y = omega (arith, net .links) },
-        ((room .demands, room .grounded), s .pre .1 .1 .0),
+        ((room .demands, (room .drawn, room .grounded)), s .pre .1 .1 .0),
       ),
     )
 
@@ -96,7 +103,7 @@ substitute-requires c κs =
 
 step-requires : tie.Need-step-requires
 step-requires c κs =
-    let x = c .before .before .before .before .before .before .before .before .before in
+    let x = c .before .before .before .before .before .before .before .before .before .before in
     let a = assemble-of (x .before .before .before .before .before .before .before) in
     let s = start a in
     (s .pre .0, (s .pre .1 .0, (omega (arith, s .pre .0 .links, a .assemble .kept, x .substitute .kept), s .pre .1 .1 .1 .0)))
@@ -116,125 +123,66 @@ returns c =
     let v = start a .args in
     let z = o .repair .last .1 .1 in
     let m = filled a in (
-      trial-stops repairOf (v .sheet .now) (v .l) (v .d) (was a) (m .matrix) (m .rhs) (m .g) (m .y) (f .factor .last .0) (f .factor .result) (outcome (o .repair .result) (state (v .heads .now) (v .demands .now) (v .flows .now) (z .0) (z .1 .0))) (assembled a) (f .factor .ensures .0) (f .factor .ensures .1) _ (w .before .before .u .given .1) (repair-of (v .sheet .now) (v .l) (was a) _ _ (o .repair .result) (z .0) (z .1 .0) (w .node-of .ensures) (o .repair .ensures)),
+      trial-stops repairOf (v .sheet .now) (v .l) (v .d) (was a) (m .matrix) (m .rhs) (m .g) (m .y) (f .factor .last .0) (f .factor .result) (outcome (o .repair .result) (state (v .heads .now) (v .demands .now) (v .drawn .now) (v .flows .now) (z .0) (z .1 .0))) (assembled a) (f .factor .ensures .0) (f .factor .ensures .1) _ (w .before .before .u .given .1) (repair-of (v .sheet .now) (v .l) (was a) _ _ (o .repair .result) (z .0) (z .1 .0) (w .node-of .ensures) (o .repair .ensures)),
       factors f,
     )
 
 returns-2 : tie.Need-returns-2
 returns-2 c =
-    let o = c .before .before .before .before .before .before .before .before in
-    let z = o .before .before .before .before .before .before .before .before .before .before in
+    let o = c .before .before .before .before .before .before .before .before .before .before in
+    let z = o .before .before .before .before .before .before .before .before .before .before .before in
     let f = z .before .before .before .before .before .before .before in
     let a = assemble-of f in
     let v = start a .args in
     let m = filled a in
     let h = o .step .last .1 .1 .1 .1 .1 .1 .1 in (
-      trial-steps repairOf (v .sheet .now) (v .l) (v .d) (was a) (m .matrix) (m .rhs) (m .g) (m .y) (f .factor .last .0) (f .factor .result) (outcome (o .step .result) (state (h .0) (h .1 .0) (h .1 .1 .0) (h .1 .1 .1 .0) (v .grounded .now))) (assembled a) (f .factor .ensures .0) (f .factor .ensures .1) _ (z .before .before .before .enum-told .given .1) (z .substitute .ensures) (o .step .ensures),
+      trial-steps repairOf (v .sheet .now) (v .l) (v .d) (was a) (m .matrix) (m .rhs) (m .g) (m .y) (f .factor .last .0) (f .factor .result) (outcome (o .step .result) (state (h .0) (h .1 .0) (h .1 .1 .0) (h .1 .1 .1 .0) (h .1 .1 .1 .1 .0) (v .grounded .now))) (assembled a) (f .factor .ensures .0) (f .factor .ensures .1) _ (z .before .before .before .enum-told .given .1) (z .substitute .ensures) (o .step .ensures),
       factors f,
     )
 
-slice-aggregate-excess-flows : tie.Need-slice-aggregate-excess-flows
-slice-aggregate-excess-flows c = search needs
-
-slice-aggregate-assemble : tie.Need-slice-aggregate-assemble
-slice-aggregate-assemble c = search needs
-
-slice-aggregate-assemble-2 : tie.Need-slice-aggregate-assemble-2
-slice-aggregate-assemble-2 c = search needs
-
-slice-aggregate-assemble-3 : tie.Need-slice-aggregate-assemble-3
-slice-aggregate-assemble-3 c = search needs
-
-slice-aggregate-assemble-4 : tie.Need-slice-aggregate-assemble-4
-slice-aggregate-assemble-4 c = search needs
-
-enum-known-u : tie.Need-enum-known-u
-enum-known-u c = search needs
-
-enum-told : tie.Need-enum-told
-enum-told c = search needs
-
-slice-aggregate-substitute : tie.Need-slice-aggregate-substitute
-slice-aggregate-substitute c = search needs
-
-slice-aggregate-step : tie.Need-slice-aggregate-step
-slice-aggregate-step c = search needs
-
-slice-aggregate-step-2 : tie.Need-slice-aggregate-step-2
-slice-aggregate-step-2 c = search needs
-
-slice-aggregate-step-3 : tie.Need-slice-aggregate-step-3
-slice-aggregate-step-3 c = search needs
-
-same-length : tie.Need-same-length
-same-length c = search needs
-
-same-length-2 : tie.Need-same-length-2
-same-length-2 c = search needs
-
-same-length-3 : tie.Need-same-length-3
-same-length-3 c = search needs
-
-same-length-4 : tie.Need-same-length-4
-same-length-4 c = search needs
-
-same-length-5 : tie.Need-same-length-5
-same-length-5 c = search needs
-
-same-length-6 : tie.Need-same-length-6
-same-length-6 c = search needs
-
-same-length-7 : tie.Need-same-length-7
-same-length-7 c = search needs
-
-same-length-8 : tie.Need-same-length-8
-same-length-8 c = search needs
-
-same-length-9 : tie.Need-same-length-9
-same-length-9 c = search needs
-
-same-length-10 : tie.Need-same-length-10
-same-length-10 c = search needs
-
-same-length-11 : tie.Need-same-length-11
-same-length-11 c = search needs
-
-same-length-12 : tie.Need-same-length-12
-same-length-12 c = search needs
+same-length-14 : tie.Need-same-length-14
+same-length-14 c =
+    let o = c .before .before .before .before .before .before .before .before .before .before in
+    let z = o .before .before .before .before .before .before .before .before .before .before .before in
+    let f = z .before .before .before .before .before .before .before in
+    f .factor .kept .0 ∙ assemble-of f .assemble .kept .1 .1 .1 .1 .1 .1 .1 .1 .1 .1 .1 .0
 
 pub trial-spec : {M : Type 1} → statement M
 trial-spec =
     tie.close
     (tie.spec
-    slice-aggregate-excess-flows
+    (λ c κs. search needs)
+    (λ c. search needs)
     excess-flows-requires
-    slice-aggregate-assemble
-    slice-aggregate-assemble-2
-    slice-aggregate-assemble-3
-    slice-aggregate-assemble-4
+    (λ c. search needs)
+    (λ c. search needs)
+    (λ c. search needs)
+    (λ c. search needs)
     assemble-requires
     factor-requires
-    enum-known-u
+    (λ c. search needs)
     node-of-requires
     repair-requires
-    enum-told
-    slice-aggregate-substitute
+    (λ c. search needs)
+    (λ c. search needs)
     substitute-requires
-    slice-aggregate-step
-    slice-aggregate-step-2
-    slice-aggregate-step-3
+    (λ c. search needs)
+    (λ c. search needs)
+    (λ c. search needs)
     step-requires
-    same-length
-    same-length-2
-    same-length-3
-    same-length-4
-    same-length-5
-    same-length-6
+    (λ c. search needs)
+    (λ c. search needs)
+    (λ c. search needs)
+    (λ c. search needs)
+    (λ c. search needs)
+    (λ c. search needs)
+    (λ c. search needs)
     returns
-    same-length-7
-    same-length-8
-    same-length-9
-    same-length-10
-    same-length-11
-    same-length-12
+    (λ c. search needs)
+    (λ c. search needs)
+    (λ c. search needs)
+    (λ c. search needs)
+    (λ c. search needs)
+    (λ c. search needs)
+    same-length-14
     returns-2)

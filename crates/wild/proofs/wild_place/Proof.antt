@@ -1,5 +1,5 @@
 -- `wild::wild_place` meets its contract. Assumes nothing.
-use Rattle.wild.proofs.Wilds.{found-below, wild-node, wild-link, wild-nowhere}
+use Rattle.wild.proofs.Wilds.{found-below, wild-node, wild-link, wild-last}
 use borrow.Author.Needs.{needs}
 use native.Mathlib.Omega.{arith}
 use mathlib.Core.Path.{sym, _∙_}
@@ -26,10 +26,11 @@ returns-2 c =
 
 returns-3 : tie.Need-returns-3
 returns-3 c =
-    let g = c .before .before in
+    let e = c .before in
+    let g = e .before .before in
     let t = g .before in
     let f = t .before .before in
-    wild-nowhere _ _ _ _ (sym (f .first-wild .ensures) ∙ t .enum-told .given .1) (sym (g .first-wild2 .ensures) ∙ c .enum-told2 .given .1)
+    wild-last _ _ _ _ _ (sym (f .first-wild .ensures) ∙ t .enum-told .given .1) (sym (g .first-wild2 .ensures) ∙ e .enum-told2 .given .1) (c .wild-drawn .ensures)
 
 pub wild-place-spec : {M : Type 1} → statement M
 wild-place-spec =
@@ -42,6 +43,7 @@ wild-place-spec =
     (λ c. search needs)
     add-t11
     (λ c. search needs)
+    (λ c κs. search needs)
     returns
     returns-2
     returns-3)

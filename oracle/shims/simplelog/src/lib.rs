@@ -39,7 +39,11 @@ pub mod trace {
         /// from the driver's hook, not from 000: refusal 7
         NotFinite { place: usize },
         /// from the driver's hook, only when it was asked for
-        State { heads: Vec<f64>, flows: Vec<f64> },
+        State {
+            heads: Vec<f64>,
+            flows: Vec<f64>,
+            drawn: Vec<f64>,
+        },
     }
 
     thread_local! {

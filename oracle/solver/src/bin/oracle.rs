@@ -57,8 +57,15 @@ fn deep(file: &str) -> io::Result<()> {
     write!(out, "{}", answer.listing())?;
     for event in &answer.events {
         match event {
-            Event::State { heads, flows } => {
+            Event::State {
+                heads,
+                flows,
+                drawn,
+            } => {
                 writeln!(out, "# heads {heads:?}\n# flows {flows:?}")?;
+                if !drawn.is_empty() {
+                    writeln!(out, "# drawn {drawn:?}")?;
+                }
             }
             event => writeln!(out, "# {event:?}")?,
         }

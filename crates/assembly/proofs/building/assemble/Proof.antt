@@ -9,7 +9,7 @@ use Rattle.assembly.proofs.building.assemble.Reads as reads
 use Rattle.assembly.proofs.building.assemble.Lts as lts
 use Rattle.assembly.proofs.building.add_grounded.Reads as add-grounded-reads
 use Rattle.assembly.proofs.building.add_links.Reads as add-links-reads
-use Rattle.assembly.proofs.building.take_demands.Reads as take-demands-reads
+use Rattle.assembly.proofs.building.add_demands.Reads as add-demands-reads
 use Rattle.columns.proofs.clear.Reads as clear-reads
 
 clear-requires : tie.Need-clear-requires
@@ -22,7 +22,7 @@ add-links-requires : tie.Need-add-links-requires
 add-links-requires c κs =
     let m2 = c .before .before .before .before .before .before in
     let m1 = m2 .before .before .before .before in
-    let s = m1 .before .before .before .before .before .before .before .before .before .before .before .before .before .before in
+    let s = m1 .before .before .before .before .before .before .before .before .before .before .before .before .before .before .before in
     let z = s .pre .1 .0 in (
       s .pre .0,
       (
@@ -36,24 +36,27 @@ add-links-requires c κs =
       ),
     )
 
-take-demands-requires : tie.Need-take-demands-requires
-take-demands-requires c κs =
-    let k = c .before .before .before .before .before .before .before .before .before in
+add-demands-requires : tie.Need-add-demands-requires
+add-demands-requires c κs =
+    let k = c .before .before .before .before .before .before .before .before .before .before in
     let m2 = k .before .before .before .before .before .before .before in
     let m1 = m2 .before .before .before .before in
-    let s = m1 .before .before .before .before .before .before .before .before .before .before .before .before .before .before in
+    let s = m1 .before .before .before .before .before .before .before .before .before .before .before .before .before .before .before in
     let given = s .pre .0 in
-    ((given .few, (s .pre .1 .1 .0 .0, (given .numbers, omega (arith, s .pre .1 .0 .rhs, m2 .clear2 .kept, k .add-links .kept)))), given .rows)
+    let room = s .pre .1 .1 .0 in (
+      record { laid = given .laid; few = given .few; numbers = given .numbers; asked-long = room .0; drawn-long = room .1 .0; rows = given .rows },
+      (omega (arith, s .pre .1 .0 .matrix, m1 .clear .kept, k .add-links .kept), omega (arith, s .pre .1 .0 .rhs, m2 .clear2 .kept, k .add-links .kept)),
+    )
 
 add-grounded-requires : tie.Need-add-grounded-requires
 add-grounded-requires c κs =
-    let d = c .before .before .before in
-    let k = d .before .before .before .before .before .before .before .before .before .before in
+    let d = c .before .before .before .before .before in
+    let k = d .before .before .before .before .before .before .before .before .before .before .before in
     let m2 = k .before .before .before .before .before .before .before in
     let m1 = m2 .before .before .before .before in
-    let s = m1 .before .before .before .before .before .before .before .before .before .before .before .before .before .before in
+    let s = m1 .before .before .before .before .before .before .before .before .before .before .before .before .before .before .before in
     let given = s .pre .0 in
-    ((given .few, (s .pre .1 .1 .0 .1, (given .numbers, omega (arith, s .pre .1 .0 .matrix, m1 .clear .kept, k .add-links .kept)))), given .rows)
+    ((given .few, (s .pre .1 .1 .0 .1 .1, (given .numbers, omega (arith, s .pre .1 .0 .matrix, m1 .clear .kept, k .add-links .kept, d .add-demands .kept)))), given .rows)
 
 same-length : tie.Need-same-length
 same-length c = search needs
@@ -70,13 +73,13 @@ same-length-4 c = search needs
 returns : tie.Need-returns
 returns c =
     let e = c .before .before in
-    let d = e .before .before .before .before in
-    let k = d .before .before .before .before .before .before .before .before .before .before in
+    let d = e .before .before .before .before .before .before in
+    let k = d .before .before .before .before .before .before .before .before .before .before .before in
     let m2 = k .before .before .before .before .before .before .before in
     let m1 = m2 .before .before .before .before in
-    let s = m1 .before .before .before .before .before .before .before .before .before .before .before .before .before .before in
+    let s = m1 .before .before .before .before .before .before .before .before .before .before .before .before .before .before .before in
     let a = s .args in
-    assembled (a .sheet .now) (a .l) (view (a .heads .now) (a .flows .now) (a .statuses .now) (a .excess .now)) (a .demands .now) (a .grounded .now) _ _ _ _ _ _ _ _ _ _ _ _ (m1 .clear .ensures) (m2 .clear2 .ensures) (k .add-links .ensures) (d .take-demands .ensures) (e .add-grounded .ensures)
+    assembled (a .sheet .now) (a .l) (view (a .heads .now) (a .flows .now) (a .statuses .now) (a .excess .now)) (a .demands .now) (a .drawn .now) (a .grounded .now) _ _ _ _ _ _ _ _ _ _ _ _ _ (m1 .clear .ensures) (m2 .clear2 .ensures) (k .add-links .ensures) (d .add-demands .ensures .0) (d .add-demands .ensures .1) (e .add-grounded .ensures)
 
 pub assemble-spec : {M : Type 1} → statement M
 assemble-spec =
@@ -85,7 +88,7 @@ assemble-spec =
     clear-requires
     clear-requires-2
     add-links-requires
-    take-demands-requires
+    add-demands-requires
     add-grounded-requires
     same-length
     same-length-2

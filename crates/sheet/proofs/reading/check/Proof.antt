@@ -25,7 +25,7 @@ bad-ends-requires : tie.Need-bad-ends-requires
 bad-ends-requires c κs =
     let f = c .before .before in
     let a = f .before .before .args in
-    (f .before .before .pre, ends-in (a .b) (a .l) (a .sheet .now) (no-field (a .b) (a .l) (a .sheet .now) (sym (f .bad-field .ensures) ∙ c .enum-told .given .1) .2))
+    (f .before .before .pre, ends-in (a .b) (a .l) (a .sheet .now) (no-field (a .b) (a .l) (a .sheet .now) (sym (f .bad-field .ensures) ∙ c .enum-told .given .1) .3))
 
 enum-known-ends : tie.Need-enum-known-ends
 enum-known-ends c = search needs
