@@ -61,6 +61,41 @@ void desk_solve(const uint8_t *sheet, size_t sheet_length,
                 double *scratch, size_t scratch_length,
                 uint64_t counts[5], double totals[3]);
 
+/* The same solve, and whether its answer may be sold. A pressure must be offered only at verdict 0.
+
+   Limits: the lowest pressure that is sold, in feet; how far a head may be off its law, in feet; how far a
+   flow may be off its law, in cubic feet per second. Nothing is within a head or flow that is NaN or below
+   0, and no pressure is at least a lowest pressure of NaN. 0, 0.1 and 0.001 are what the desk takes
+   (docs/DESK.md says why).
+
+   verdict[0] is the first line that holds, verdict[1] its place:
+     1  the solve's number is not 0                                  that number
+     2  the record shows a repair: VF or GN                          the first such entry, from 0
+     3  nothing determines a head: a junction in service that no
+        way of conducting links joins to a reservoir, a tank or a
+        node that an Active regulator holds                          the lowest such node
+     4  at a junction in service what flows in, less what flows out
+        and the demand, is not within flow of 0                      the lowest such node
+     5  a link in service that its own law would move by more than
+        flow, and by more than head times its conductance            the lowest such link
+     6  an Active PRV or PSV in service whose node's head is not
+        within head of its set head                                  the lowest such link
+     7  where a PD stands: a drawn flow that is not within flow of
+        what its pressure allows                                     the lowest such node
+     8  a junction in service whose pressure is not at least 0, or
+        that asks and whose pressure is not at least the lowest      the lowest such node
+     0  none of these: it may be sold                                0
+   Everything else is as desk_solve has it. */
+void desk_verdict(const uint8_t *sheet, size_t sheet_length,
+                  double lowest_pressure, double head, double flow,
+                  double *heads, size_t heads_length,
+                  double *demands, size_t demands_length,
+                  double *flows, size_t flows_length,
+                  uint8_t *statuses, size_t statuses_length,
+                  uint8_t *record, size_t record_length,
+                  double *scratch, size_t scratch_length,
+                  uint64_t counts[5], double totals[3], uint64_t verdict[2]);
+
 #ifdef __cplusplus
 }
 #endif

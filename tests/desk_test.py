@@ -1,7 +1,8 @@
-"""The desk: its words, tables, JSON and pictures over stored listings, the undetermined junctions, refusals
-explained, the text form, and what it does with bad arguments. The proved program is not asked here."""
+"""The desk: its words, tables, JSON and pictures over stored listings, verdicts told, the undetermined junctions,
+refusals explained, the text form, and what it does with bad arguments. The proved program is not asked here: its
+verdicts are those of the second computation, or made up."""
 import contextlib
-import hashlib
+import functools
 import io
 import json
 import os
@@ -18,18 +19,23 @@ sys.path.insert(0, os.path.join(TOP, "tools"))
 import desk_answer
 import desk_drawn
 import desk_json
+import desk_limits
 import desk_main
 import desk_network
 import desk_plot
 import desk_program
 import desk_refusals
 import desk_text
+import desk_unsettled
 import desk_words
 import listings
 import programs
 import sheet_bounds
 import sheet_text
 import sheets
+import verdicts
+from desk_limits import USUAL
+from desk_program import Reply
 from sheet_format import STATUSES, Sheet, bits
 from stored import read
 
@@ -44,21 +50,31 @@ DRY_WEEK = "examples/dry-week"
 NOT_FOR_SALE = "; these pressures must not be sold on"
 
 
-def answer(name):
-    data, text = BY_NAME[name]
-    return desk_answer.Answer(name, data, text)
+@functools.lru_cache(maxsize=None)
+def reply(data, text, limits=USUAL):
+    """With the verdict of the second computation."""
+    return Reply(*verdicts.verdict(data, text, verdicts.Limits(*limits)), text)
 
 
-def made(sheet, heads, drawn, flows=(), trials=3):
+def answer_to(name, data, text, limits=USUAL):
+    return desk_answer.Answer(name, data, reply(data, text, limits), limits)
+
+
+def answer(name, limits=USUAL):
+    return answer_to(name, *BY_NAME[name], limits)
+
+
+def made(sheet, heads, drawn, flows=(), trials=3, verdict=(0, 0), limits=USUAL, statuses=None):
     """An answer 0 made up for a sheet: a head and a drawn flow for each node, a flow for each link."""
+    statuses = statuses or [1] * len(flows)
     lines = ["A 0 0 %d 0 0" % trials] + ["T ST 0"] * (trials - 1) + ["T OK 0"]
     lines += ["N %d %016x %016x" % (i, bits(head), bits(flow)) for i, (head, flow) in enumerate(zip(heads, drawn))]
-    lines += ["L %d %016x 1" % (i, bits(flow)) for i, flow in enumerate(flows)]
+    lines += ["L %d %016x %d" % (i, bits(flow), status) for i, (flow, status) in enumerate(zip(flows, statuses))]
     lines += ["B %016x %016x %016x" % (bits(1.0), bits(0.75), bits(0.25))]
-    return desk_answer.Answer("made.sheet", sheet.encode(), "\n".join(lines) + "\n")
+    return desk_answer.Answer("made.sheet", sheet.encode(), Reply(*verdict, "\n".join(lines) + "\n"), limits)
 
 
-def row(*pressures, minimum=0.0, required=64.0, unit="CFS", asked=0.5):
+def row(*pressures, minimum=0.0, required=64.0, unit="CFS", asked=0.5, limits=USUAL):
     """A reservoir and a row of hydrants at height 10, each asking the same; the answer has these pressures, and
     each draws what its pressure allows, or what stands beside the pressure."""
     s = Sheet(pressures=(minimum, required), unit=unit)
@@ -67,16 +83,18 @@ def row(*pressures, minimum=0.0, required=64.0, unit="CFS", asked=0.5):
     for k in range(len(pairs)):
         s.junction(elevation=10.0, demand=asked)
         s.pipe(k, k + 1)
-    return made(s, [100.0] + [10.0 + p for p, _ in pairs], [0.0] + [q for _, q in pairs], [0.5] * len(pairs))
+    strays = [k for k, (p, q) in enumerate(pairs, 1) if abs(q - desk_drawn.allowed(asked, p, s.pd)) > limits.flow]
+    return made(s, [100.0] + [10.0 + p for p, _ in pairs], [0.0] + [q for _, q in pairs], [0.5] * len(pairs),
+                verdict=(7, strays[0]) if strays else (0, 0), limits=limits)
 
 
 def example(name):
     return os.path.join(TOP, "examples", name + ".sheet")
 
 
-def stored_solve(data):
-    """Stands in for the proved program: the stored listing of a stored sheet."""
-    return BY_DATA[data]
+def stored_ask(asked, limits):
+    """Stands in for the proved program: the stored listings of stored sheets; any other sheet is refused."""
+    return [reply(data, BY_DATA.get(data, "A 8 40 0 0 0\n"), limits) for data in asked]
 
 
 def desk(*args):
@@ -84,7 +102,7 @@ def desk(*args):
     out, err = io.StringIO(), io.StringIO()
     with contextlib.redirect_stdout(out), contextlib.redirect_stderr(err):
         try:
-            status = desk_main.main(list(args), stored_solve)
+            status = desk_main.main(list(args), stored_ask)
         except SystemExit as end:
             status = end.code
     return status, out.getvalue(), err.getvalue()
@@ -119,7 +137,7 @@ class FirstLines(unittest.TestCase):
     def test_a_valve_freed_again(self):
         data, text = BY_NAME["june-both-repaired"]
         text = text.replace("A 0 0 13 1 0", "A 0 0 13 2 0").replace("T ST 0", "T VF 2", 1)
-        line = desk_answer.Answer("x", data, text).first_line()
+        line = answer_to("x", data, text).first_line()
         self.assertIn("but with 2 repairs: the PRV at link 2 (2 -> 3) was freed 2 times;", line)
 
     def test_undetermined_without_a_repair(self):
@@ -134,9 +152,8 @@ class FirstLines(unittest.TestCase):
         for name in BY_NAME:
             found = answer(name)
             if found.solved:
-                doubtful = bool(found.listing.freed or found.listing.grounded or found.undetermined or found.unfit)
-                self.assertEqual(found.first_line().endswith(NOT_FOR_SALE), doubtful, name)
-                self.assertEqual(found.exit_status, 3 if doubtful else 0, name)
+                self.assertEqual(found.first_line().endswith(NOT_FOR_SALE), found.verdict != 0, name)
+                self.assertEqual(found.exit_status, 3 if found.verdict else 0, name)
                 marks = [mark for mark, _ in found.entries]
                 self.assertEqual((marks.count("VF"), marks.count("GN")),
                                  (found.listing.freed, found.listing.grounded), name)
@@ -167,7 +184,7 @@ class Pages(unittest.TestCase):
         s.pipe(0, 1)
         text = "A 0 0 1 0 0\nT OK 0\nN 0 %016x %016x\nN 1 %016x %016x\nL 0 %016x 1\nB %016x %016x %016x\n" % tuple(
             map(bits, (100.0, 0.0, 90.0, 1.0, 1.0, 1.0, 1.0, 0.0)))
-        page = desk_text.page(desk_answer.Answer("x", s.encode(), text), False)
+        page = desk_text.page(answer_to("x", s.encode(), text), False)
         self.assertRegex(page, r"head ft +head m +pressure ft +pressure m +demand cfs +demand LPS")
         self.assertRegex(page, r"\n +1  junction +90\.00 +27\.43 +80\.00 +24\.38 +1\.0000 +28\.32\n")
 
@@ -217,19 +234,6 @@ def picture_words(found):
 
 def everything(found):
     return desk_text.page(found, True) + desk_json.document([found]) + desk_plot.picture(found)
-
-
-class WithoutPressures(unittest.TestCase):
-    def test_nothing_changes_for_a_sheet_without_a_pd(self):
-        """Page, JSON and picture of the seeded cases are those of before there was a PD. But for refusal 1 just
-        behind OP, whose words now name PD among what may stand there."""
-        digest = hashlib.sha256()
-        for name in BY_NAME:
-            if re.match("boundary-11-|real-12-|wild-13-|damaged-14-", name):
-                found = answer(name)
-                if (found.listing.number, found.listing.place) != (1, 29):
-                    digest.update(everything(found).encode())
-        self.assertEqual(digest.hexdigest(), "db5a39af2629f264ff9b2926b526e99eb9ce66c30f4f2a6530c9bb38f3079a29")
 
 
 class GivingWay(unittest.TestCase):
@@ -294,19 +298,18 @@ class GivingWay(unittest.TestCase):
 
     def test_the_tolerance(self):
         # at a quarter of the range half of the demand may be drawn
-        for drawn, fits in ((0.25, True), (0.2549, True), (0.2451, True), (0.2551, False), (0.2449, False)):
-            self.assertEqual(row((16.0, drawn)).clean, fits, drawn)
-        # where next to nothing is asked, what the solver adds at a great pressure is no fault
-        self.assertTrue(row((900.0, 0.000109), asked=0.0001).clean)
-        self.assertFalse(row((900.0, 0.000111), asked=0.0001).clean)
+        wide = USUAL._replace(flow=0.125)
+        for drawn, limits, fits in ((0.25, USUAL, True), (0.2509, USUAL, True), (0.2511, USUAL, False),
+                                    (0.2489, USUAL, False), (0.375, wide, True), (0.3751, wide, False)):
+            (hydrant,) = row((16.0, drawn), limits=limits).hydrants.values()
+            self.assertEqual(hydrant.fits, fits, drawn)
 
-    def test_the_tolerance_in_the_papers(self):
-        paper = read("docs/DESK.md").decode()
-        self.assertIn("%g of what the hydrant asks" % desk_drawn.TOLERANCE, paper)
-        self.assertIn("%g of what it asks" % desk_drawn.SERVED, paper)
+    def test_what_counts_as_served_in_the_papers(self):
+        self.assertIn("%g of what it asks" % desk_drawn.SERVED, read("docs/DESK.md").decode())
 
     def test_a_repair_and_a_lack_are_both_told(self):
         found = row(64.0, 16.0)
+        found.verdict, found.place = 2, 3
         found.entries.append(("GN", 1))
         found.listing.grounded = 1
         self.check(found, "solved in 3 trials; 1 hydrant gets less than it asks, worst node 2, which lacks 0.2500 of "
@@ -367,9 +370,9 @@ class GivingWay(unittest.TestCase):
         data, _ = sheet_text.read_scheme(block_after("docs/DESK.md", "must not be sold: drawn").encode())
         self.assertEqual(data, read(DRY_WEEK + "/no-pressure.sheet"))
         self.assertEqual(len(data), 186)
-        found = desk_answer.Answer("x", data, "A 0 0 1 0 0\nT OK 0\nN 0 4059000000000000 0000000000000000\n"
-                                   "N 1 4058c000032f504a 3fefffff23e207b6\nL 0 3fefffff23e207ab 1\n"
-                                   "B 3ff0000000000000 3fefffff23e207ab 3e9b83bf0aa00000\n")
+        found = answer_to("x", data, "A 0 0 1 0 0\nT OK 0\nN 0 4059000000000000 0000000000000000\n"
+                          "N 1 4058c000032f504a 3fefffff23e207b6\nL 0 3fefffff23e207ab 1\n"
+                          "B 3ff0000000000000 3fefffff23e207ab 3e9b83bf0aa00000\n")
         line = re.search("`(solved in 1 trial, but what .*?)`", read("docs/DESK.md").decode()).group(1)
         self.check(found, line, 3)
 
@@ -379,6 +382,268 @@ class GivingWay(unittest.TestCase):
         found = made(s, [100.0], [0.0])
         self.check(found, "solved in 3 trials; every hydrant gets what it asks", 0)
         self.assertIn("\nHydrants\n  no water at", everything(found))
+
+
+def two(verdict, heads=(100.0, 60.0), flow=0.25, unit="LPS", demand=0.25, limits=USUAL, kind="pipe", **fields):
+    """A reservoir and a junction at height 10, and what a verdict about them is in the first line."""
+    s = Sheet(unit=unit)
+    s.reservoir(head=100.0)
+    s.junction(elevation=10.0, demand=demand)
+    s.link(kind, 0, 1, **fields)
+    return made(s, heads, [0.0, demand], [flow], verdict=verdict, limits=limits)
+
+
+class Verdicts(unittest.TestCase):
+    """The program's verdict decides; the words name its place and its figure."""
+
+    def check(self, found, words):
+        self.assertEqual(found.first_line(), "solved in 3 trials, but " + words + NOT_FOR_SALE)
+        self.assertEqual((found.exit_status, found.may_be_sold), (3, False))
+        self.assertIn("must not be sold on", " ".join(picture_words(found).split()))
+
+    def test_sold(self):
+        found = two((0, 0))
+        self.assertEqual((found.first_line(), found.exit_status, found.may_be_sold), ("solved in 3 trials", 0, True))
+
+    def test_4_a_node_that_does_not_balance(self):
+        self.check(two((4, 1), flow=0.5), "at node 1 (junction) what flows in and what is taken differ by 0.25 cfs "
+                   "(7.1 LPS), and 0.001 cfs (0.028 LPS) is allowed")
+
+    def test_5_a_link_that_does_not_keep_its_law(self):
+        self.check(two((5, 0)), "the flow of link 0 (pipe 0 -> 1), 0.2500 cfs (7.08 LPS), does not go with the heads "
+                   "at its ends, 100.00 and 60.00 ft (30.48 and 18.29 m)")
+        self.check(two((5, 0), unit="CFS"), "the flow of link 0 (pipe 0 -> 1), 0.2500 cfs, does not go with the heads "
+                   "at its ends, 100.00 and 60.00 ft")
+
+    def test_6_a_head_that_is_not_held(self):
+        self.check(two((6, 0), kind="PRV", setting=49.5), "the head of node 1 is 0.5 ft from the one that link 0 "
+                   "(PRV 0 -> 1) is set to hold, and 0.1 ft is allowed")
+
+    def test_8_a_pressure_that_is_too_low(self):
+        least = USUAL._replace(lowest=10.0 / 0.3048)
+        low = 10.0 + 1.2 / 0.3048
+        self.check(two((8, 1), (100.0, low), limits=least),
+                   "hydrant 1 has 3.94 ft (1.20 m), the lowest allowed is 32.81 ft (10.00 m)")
+        self.check(two((8, 1), (100.0, 10.0 - 39.0 / 0.3048)),
+                   "hydrant 1 has -127.95 ft (-39.00 m), the lowest allowed is 0.00 ft (0.00 m)")
+        self.check(two((8, 1), (100.0, 9.0), demand=0.0, limits=least),
+                   "node 1 has -1.00 ft (-0.30 m), the lowest allowed is 0.00 ft (0.00 m)")
+        # a lowest pressure under 0 lets no pressure under 0 pass
+        self.check(two((8, 1), (100.0, 9.0), limits=USUAL._replace(lowest=-5.0)),
+                   "hydrant 1 has -1.00 ft (-0.30 m), the lowest allowed is 0.00 ft (0.00 m)")
+
+    def test_8_a_pressure_just_below(self):
+        found = two((8, 1), (100.0, 59.99999), limits=USUAL._replace(lowest=50.0))
+        self.check(found, "hydrant 1 has 49.99999 ft (15.24000 m), the lowest allowed is 50.00000 ft (15.24000 m)")
+
+    def test_8_several(self):
+        found = row(16.0, 4.0, 1.0, limits=USUAL._replace(lowest=10.0))
+        found.verdict, found.place = 8, 2
+        self.assertIn(", but hydrant 2 has 4.00 ft (1.73 psi), the lowest allowed is 10.00 ft (4.33 psi), and 1 more node "
+                      "is too low;", found.first_line())
+        page = desk_text.page(found, False)
+        self.assertEqual(page.count("pressure too low\n"), 2)
+        self.assertIn("red where it is too low", picture_words(found))
+
+    def test_only_a_verdict_that_speaks_of_heads_names_any(self):
+        data, text = BY_NAME["june-undetermined"]
+        for verdict, place, nodes in ((3, 1, [1, 2]), (3, 0, [0, 1, 2]), (2, 0, [1, 2]), (8, 1, []), (0, 0, [])):
+            found = desk_answer.Answer("x", data, Reply(verdict, place, text))
+            self.assertEqual(found.undetermined, nodes)
+
+    def test_7_is_told_even_where_the_desk_finds_none(self):
+        found = row(16.0)
+        found.verdict, found.place = 7, 1
+        self.assertIn("but what node 1 draws does not fit the pressure there;", found.first_line())
+
+    def test_every_verdict_of_the_stored_list_has_words(self):
+        seen = set()
+        for limits in (USUAL, USUAL._replace(head=0.0), USUAL._replace(head=0.0, flow=0.0),
+                       USUAL._replace(flow=1e300, head=0.0)):
+            for name in BY_NAME:
+                found = answer(name, limits)
+                seen.add(found.verdict)
+                self.assertNotIn("but ;", found.first_line())
+                self.assertEqual(found.first_line().endswith(NOT_FOR_SALE), found.verdict > 1, name)
+        self.assertEqual(seen, set(range(9)))
+
+    def test_the_json(self):
+        (found,) = json.loads(desk_json.document([two((8, 1), (100.0, 9.0), limits=USUAL._replace(lowest=5.0))]))
+        self.assertEqual((found["verdict"], found["may_be_sold"]), ({"number": 8, "place": 1}, False))
+        self.assertEqual([found["limits"][key] for key in ("lowest_pressure_ft", "head_ft", "flow_cfs")],
+                         [5.0, 0.1, 0.001])
+
+
+class LimitsGiven(unittest.TestCase):
+    def test_a_pressure_with_its_unit(self):
+        for text, feet in (("10m", 10.0 / 0.3048), ("10 m", 10.0 / 0.3048), ("43.33PSI", 43.33 / 0.4333), ("1e1ft", 10.0),
+                           ("-3 ft", -3.0), ("0ft", 0.0)):
+            self.assertEqual(desk_limits.least(text), feet)
+
+    def test_tolerances(self):
+        for text, found in (("0.2ft", {"head": 0.2}), ("28.317 lps", {"flow": 1.0}), ("3.048m,1cfs", {"head": 10.0, "flow": 1.0}),
+                            ("0 cfs , 0 psi", {"head": 0.0, "flow": 0.0})):
+            self.assertEqual(desk_limits.within(text), found)
+
+    def refused(self, *args):
+        status, out, err = desk(*args, example("june-unrepaired"))
+        self.assertEqual((status, out), (2, ""))
+        return err.splitlines()[-1]
+
+    def test_what_is_no_limit(self):
+        for option, text, words in (
+                ("--least", "10", "the line ends where the unit of the lowest pressure is expected"),
+                ("--least", "ten m", "ten m is no number, but the figure of the lowest pressure is expected"),
+                ("--least", "3lps", "lps is no unit for the lowest pressure; there are ft, m, psi"),
+                ("--least", "nan m", "nan m is no number"), ("--least", "1e999m", "1e999m is too great"),
+                ("--least", "", "the line ends where the figure"),
+                ("--within", "1", "the line ends where the unit of a tolerance is expected"),
+                ("--within", "1ft,2m", "the tolerance of heads is given twice"),
+                ("--within", "1furlong", "furlong is no unit for a tolerance; there are ft, m, psi, cfs,"),
+                ("--within", "-1ft", "a tolerance must be 0 or more"),
+                ("--within", "1ft,", "the line ends where the figure of a tolerance is expected")):
+            self.assertIn(words, self.refused(option + "=" + text))
+
+    def test_they_reach_the_program(self):
+        asked = []
+
+        def ask(found, limits):
+            asked.append(limits)
+            return stored_ask(found, limits)
+
+        with contextlib.redirect_stdout(io.StringIO()):
+            for args in ((), ("--least", "10ft"), ("--within", "1ft"), ("--within=2cfs,1ft", "--least=5ft")):
+                desk_main.main([*args, example("june-unrepaired")], ask)
+        self.assertEqual(asked, [(0.0, 0.1, 0.001), (10.0, 0.1, 0.001), (0.0, 1.0, 0.001), (5.0, 1.0, 2.0)])
+
+    def test_a_lowest_pressure_makes_the_difference(self):
+        self.assertEqual(desk("--least", "29.9ft", example("june-unrepaired"))[0], 0)
+        status, out, _ = desk("--least", "30.1ft", example("june-unrepaired"))
+        self.assertEqual((status, out.splitlines()[0]), (3, "solved in 8 trials, but hydrant 3 has 30.00 ft (13.00 psi), "
+                         "the lowest allowed is 30.10 ft (13.04 psi)" + NOT_FOR_SALE))
+
+    def test_the_usual_ones_in_the_papers(self):
+        self.assertTrue("%g ft and %g cfs" % USUAL[1:] in read("docs/DESK.md").decode())
+        self.assertIn("%gft,%gcfs (so it is if not given)" % USUAL[1:],
+                      " ".join(desk_main.parser().format_help().split()))
+
+
+class Program(unittest.TestCase):
+    """What the proved program is sent and what it prints."""
+
+    def test_a_question(self):
+        asked = desk_program.question(b"sheet", desk_limits.Limits(1.0, 2.0, 0.5))
+        self.assertEqual(asked.hex(), "000000000000f03f" "0000000000000040" "000000000000e03f" "05000000" + b"sheet".hex())
+
+    def test_replies(self):
+        self.assertEqual(desk_program.replies("V 0 0\nA 0 0 1 0 0\nT OK 0\n--\nV 1 3\nA 3 168 0 0 0\n--\n"),
+                         [(0, 0, "A 0 0 1 0 0\nT OK 0\n"), (1, 3, "A 3 168 0 0 0\n")])
+        self.assertEqual(desk_program.of_listing("A 1 65549 0 0 0\n"), (1, 1, "A 1 65549 0 0 0\n"))
+
+    def test_what_cannot_be_read_is_told(self):
+        output = desk_program.output
+        try:
+            for text in ("", "X\n", "V 0 0\n", "A 0 0 1 0 0\n--\n", "V 0 0\nA 8 40 0 0 0\n--\n", "V 1 8\nA 0 0 1 0 0\n--\n",
+                         "V 0\nA 0 0 1 0 0\n--\n", "V 0 0\n\n--\n", "V a b\nA 0 0 1 0 0\n--\n",
+                         "V 0 0\nA 0 0 1 0 0\n--\n" * 2, "--\n"):
+                desk_program.output = lambda name, data, text=text: text
+                with self.assertRaises(desk_program.NotToBeHad, msg=repr(text)):
+                    desk_program.ask([b"sheet"], USUAL)
+                with self.assertRaises(desk_program.NotToBeHad):
+                    desk_program.output = lambda name, data: "A 0 0 1 0 0\n"
+                    desk_program.ask([bytes(65537)], USUAL)
+        finally:
+            desk_program.output = output
+
+    def test_a_sheet_that_is_too_long_for_it(self):
+        output = desk_program.output
+        try:
+            desk_program.output = lambda name, data: {"listing": "A 1 0 0 0 0\n"}[name]
+            self.assertEqual(desk_program.ask([bytes(65537)], USUAL), [(1, 1, "A 1 0 0 0 0\n")])
+        finally:
+            desk_program.output = output
+
+
+class Unsettled(unittest.TestCase):
+    """Refusal 8: what still moved, by answers that stopped earlier."""
+
+    MAYBE = ("; it may be that a PRV or a PSV changes its status again and again: look at link 1 (PRV 1 -> 2)")
+
+    def setUp(self):
+        self.sheet = Sheet(unit="LPS", accuracy=0.001, max_flow_change=2.0, trials=40)
+        self.sheet.reservoir(head=100.0)
+        self.sheet.junction(demand=0.25)
+        self.sheet.junction(demand=0.25)
+        self.sheet.pipe(0, 1)
+        self.sheet.valve("PRV", 1, 2, setting=20.0)
+        self.sheet.pipe(0, 2)
+
+    def refused(self):
+        data = self.sheet.encode()
+        return desk_answer.Answer("x", data, Reply(1, 8, "A 8 %d 0 0 0\n" % self.sheet.op["trials"]))
+
+    def stopped(self, trials, flows, statuses=(1, 2, 1), verdict=(0, 0)):
+        lines = ["A 0 0 %d 0 0" % trials] + ["L %d %016x %d" % (i, bits(q), s)
+                                             for i, (q, s) in enumerate(zip(flows, statuses))]
+        return Reply(*verdict, "\n".join(lines) + "\n")
+
+    def words(self, *replies):
+        return desk_unsettled.words(self.refused(), replies)
+
+    def test_the_sheets_that_are_asked(self):
+        found = [sheets.decode(data) for data in desk_unsettled.coarser(self.sheet.encode())]
+        self.assertEqual([records[1:] for records in found], [sheets.decode(self.sheet.encode())[1:]] * len(found))
+        options = [records[0][2] for records in found]
+        self.assertEqual([f["accuracy"] for f in options][:2] + [options[-1]["accuracy"]], [0.01, 0.1, 2.0 ** 40])
+        self.assertEqual({f["max_flow_change"] for f in options}, {0.0})
+        self.assertEqual({f["trials"] for f in options}, {40})
+        self.sheet.op["accuracy"] = 2.0 ** 40
+        self.assertEqual(len(desk_unsettled.coarser(self.sheet.encode())), 1)
+
+    def test_flows_and_statuses_between_two_stops(self):
+        refused = Reply(1, 8, "A 8 40 0 0 0\n")
+        self.assertEqual(
+            self.words(refused, self.stopped(30, [0.5, 0.25, 0.1]), self.stopped(9, [0.5005, 0.5, 0.25], (1, 1, 1)),
+                       self.stopped(1, [9.0, 9.0, 9.0])),
+            "; between trial 9 and trial 30 link 1 (PRV 1 -> 2) went from Open to Active and the flow of links 1 and 2 "
+            "moved, most that of link 1 (PRV 1 -> 2), by 0.25 cfs (7.1 LPS)")
+        self.assertEqual(
+            self.words(self.stopped(30, [0.5, 0.25, 0.1]), self.stopped(9, [0.5 - 2.0 ** -20, 0.25 + 2.0 ** -22, 0.1])),
+            "; between trial 9 and trial 30 the flow of links 0 and 1 moved, most that of link 0 (pipe 0 -> 1), by "
+            "9.5e-07 cfs (2.7e-05 LPS)")
+        self.assertEqual(self.words(self.stopped(30, [0.5, 0.25, 0.1]), self.stopped(9, [0.5, 0.25, 0.1])), self.MAYBE)
+
+    def test_one_stop(self):
+        flows = [0.5, 0.25, 0.1]
+        self.assertEqual(self.words(self.stopped(1, flows, verdict=(5, 2)), self.stopped(1, flows, verdict=(5, 2))),
+                         "; after 1 trial the flow of link 2 (pipe 0 -> 2) does not go with its heads")
+        self.assertEqual(self.words(self.stopped(1, flows)), self.MAYBE)
+        self.sheet.links.pop(1)
+        self.assertEqual(self.words(self.stopped(1, flows)), "")
+
+    def test_no_stop(self):
+        refused = Reply(1, 8, "A 8 40 0 0 0\n")
+        self.assertEqual(self.words(refused), "; no trial ends it at any accuracy, so a PRV or a PSV changes "
+                         "its status again and again: look at link 1 (PRV 1 -> 2)")
+        self.sheet.links.pop(1)
+        self.assertEqual(self.words(refused), "")
+
+    def test_the_advice_is_not_followed_yet(self):
+        flips = ", or give another setting to a PRV or PSV that flips between two statuses"
+        self.assertEqual(self.refused().refusal.mend, "allow more trials (up to 200), or set a damping limit, or give the "
+                         "links other first flows" + flips)
+        self.sheet.op.update(trials=200, damping_limit=0.5)
+        self.assertEqual(self.refused().refusal.mend, "give the links other first flows" + flips)
+        self.sheet.links.pop(1)
+        self.assertEqual(self.refused().refusal.mend, "give the links other first flows")
+
+    def test_it_stands_in_the_first_line(self):
+        with tempfile.NamedTemporaryFile(suffix=".sheet") as file:
+            file.write(self.sheet.encode())
+            file.flush()
+            status, out, _ = desk(file.name)
+        self.assertEqual(status, 1)
+        self.assertTrue(out.startswith("refused, number 8 at place 40: 40 trials gave no answer; no trial ends it"), out)
 
 
 class Undetermined(unittest.TestCase):
@@ -602,13 +867,13 @@ class Pictures(unittest.TestCase):
 
     def test_the_picture_in_the_papers(self):
         data, text = BY_NAME["june-both-repaired"]
-        made = desk_plot.picture(desk_answer.Answer("june.sheet", data, text))
+        made = desk_plot.picture(answer_to("june.sheet", data, text))
         self.assertEqual(read("docs/june.svg").decode(), made)
 
     def test_a_name_with_signs_of_its_own(self):
         data, text = BY_NAME["june-undetermined"]
         for name in ("<a&b>.sheet", "\x01\udc80.sheet"):
-            ElementTree.fromstring(desk_plot.picture(desk_answer.Answer(name, data, text)).encode())
+            ElementTree.fromstring(desk_plot.picture(answer_to(name, data, text)).encode())
 
 
 class TextForm(unittest.TestCase):
@@ -830,7 +1095,7 @@ class Command(unittest.TestCase):
             os.environ["PATH"] = self.folder.name
             with contextlib.redirect_stderr(io.StringIO()) as err:
                 with self.assertRaises(desk_program.NotToBeHad):
-                    desk_program.solve(b"")
+                    desk_program.ask([b""], USUAL)
             self.assertIn("takes some minutes", err.getvalue())
         finally:
             programs.path, os.environ["PATH"] = path, which

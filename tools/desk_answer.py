@@ -1,7 +1,9 @@
-"""A sheet, the listing that the proved program gave for it, and what a desk must know of the two."""
+"""A sheet, the verdict and the listing that the proved program gave for it, and what a desk must know of them."""
 import desk_drawn
+import desk_limits
 import desk_network
 import desk_refusals
+import desk_verdict
 import sheet_bounds
 from desk_words import Units, counted, flow_words, link_words, listed, node_words, numbered
 from listings import Listing
@@ -17,9 +19,12 @@ def said_of(hydrants, one, several):
 
 
 class Answer:
-    def __init__(self, name, data, text):
-        self.name, self.listing = name, Listing(text)
-        self.solved = self.listing.number == 0
+    def __init__(self, name, data, reply, limits=desk_limits.USUAL):
+        self.name, self.limits = name, limits
+        # number and place of the verdict; the solve's own are the listing's
+        self.verdict, self.place = reply.verdict, reply.place
+        self.listing = Listing(reply.text)
+        self.solved = self.verdict != desk_verdict.REFUSED
         found, _ = sheet_bounds.records(data)
         self.nodes = [fields for _, mark, fields in found if mark == b"ND"]
         self.links = [fields for _, mark, fields in found if mark == b"LK"]
@@ -27,18 +32,24 @@ class Answer:
                         (entry.split(" ") for entry in self.listing.record)]
         self.refusal = None if self.solved else desk_refusals.explain(
             data, self.listing.number, self.listing.place)
-        self.units = Units(found[0][2]["unit"]) if self.solved else None
-        self.undetermined = self.find_undetermined() if self.solved else []
+        # refusals up to 5 may have no options to read
+        self.units = None if 1 <= self.listing.number <= 5 else Units(found[0][2]["unit"])
+        self.undetermined = self.find_undetermined()
         # the two pressures that demand gives way between, or None
         self.pd = next((fields for _, mark, fields in found if mark == b"PD"), None)
         self.hydrants = self.find_hydrants() if self.solved and self.pd else {}
+        self.low = desk_verdict.low_nodes(self) if self.solved else []
 
     def find_undetermined(self):
-        return desk_network.undetermined(self.nodes, self.links, self.listing.statuses, self.listing.flows)
+        """The verdict says whether there are any, save where it is about a repair."""
+        if self.verdict not in (desk_verdict.REPAIRED, desk_verdict.UNDETERMINED):
+            return []
+        found = set(desk_network.undetermined(self.nodes, self.links, self.listing.statuses, self.listing.flows))
+        return sorted(found | ({self.place} if self.verdict == desk_verdict.UNDETERMINED else set()))
 
     def find_hydrants(self):
         pressures = [self.pressure(i) for i in range(len(self.nodes))]
-        return desk_drawn.hydrants(self.nodes, self.listing.demands, pressures, self.pd)
+        return desk_drawn.hydrants(self.nodes, self.listing.demands, pressures, self.pd, self.limits.flow)
 
     def repaired(self, mark):
         """The links freed (VF) or the nodes grounded (GN), each once, in the order of the record."""
@@ -63,12 +74,12 @@ class Answer:
         return [h for h in self.hydrants.values() if not h.fits]
 
     @property
-    def clean(self):
-        return self.solved and not (self.freed or self.grounded or self.undetermined or self.unfit)
+    def may_be_sold(self):
+        return self.verdict == desk_verdict.SOLD
 
     @property
     def exit_status(self):
-        return REFUSED if not self.solved else CLEAN if self.clean else DOUBTFUL
+        return CLEAN if self.may_be_sold else DOUBTFUL if self.solved else REFUSED
 
     def pressure(self, node):
         """In feet of water."""
@@ -85,8 +96,11 @@ class Answer:
             return "refused, number %d at place %d: %s" % (
                 self.refusal.number, self.refusal.place, self.refusal.why)
         line = "solved in " + counted(self.listing.trials, "trial") + self.short_words()
-        doubts = self.repair_words() + self.undetermined_words() + self.unfit_words()
-        return line if not doubts else "%s, but %s; %s" % (line, "; ".join(doubts), NOT_FOR_SALE)
+        return line if self.may_be_sold else "%s, but %s; %s" % (line, "; ".join(self.doubts()), NOT_FOR_SALE)
+
+    def doubts(self):
+        found = self.repair_words() + self.undetermined_words() + self.unfit_words()
+        return found if self.verdict == desk_verdict.NOT_DRAWN and self.unfit else found + desk_verdict.words(self)
 
     def freed_words(self, number):
         link = self.links[number]

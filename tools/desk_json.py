@@ -78,7 +78,10 @@ def results(answer):
 def answer_keys(answer):
     found = {
         "sheet": answer.name, "first_line": answer.first_line(), "exit_status": answer.exit_status,
-        "solved": answer.solved, "may_be_sold": answer.clean,
+        "solved": answer.solved, "may_be_sold": answer.may_be_sold,
+        "verdict": {"number": answer.verdict, "place": answer.place},
+        "limits": numbers(lowest_pressure_ft=answer.limits.lowest, head_ft=answer.limits.head,
+                          flow_cfs=answer.limits.flow),
         "number": answer.listing.number, "place": answer.listing.place, "trials": answer.listing.trials,
         "freed": answer.freed, "grounded": answer.grounded, "undetermined": answer.undetermined,
         "record": [{"trial": trial, "mark": mark, "number": number, "words": entry_words(answer, mark, number)}

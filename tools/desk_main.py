@@ -4,20 +4,22 @@ import os
 import sys
 
 import desk_json
+import desk_limits
 import desk_plot
 import desk_program
 import desk_text
+import desk_unsettled
 import sheet_text
 from desk_answer import BAD_USE, CLEAN, DOUBTFUL, REFUSED, Answer
 from sheet_format import shown
 
-DESCRIPTION = "Solves network sheets by the proved program and tells a person or a program what came out."
+DESCRIPTION = ("Solves network sheets by the proved program and tells a person or a program what came out and "
+               "whether it may be sold.")
 EPILOG = """exit status:
-  0  every sheet was solved, with no repair, every head determined and every drawn flow fitting its pressure
+  0  every sheet was solved, and the proved verdict is that its pressures may be sold
   1  a sheet was refused by the solver; that is an answer, and the first line says why
   2  bad use: wrong arguments, a file that cannot be read or is empty, no program to ask
-  3  a sheet was solved with a repair, with heads that nothing determines, or with a drawn flow that does not
-     fit its pressure: its pressures must not be sold on
+  3  a sheet was solved, but its pressures must not be sold on; the first line says why
   of several sheets the gravest counts: 2, then 3, then 1
 
 docs/DESK.md says what the output means, docs/SHEETS.md how to write a sheet by hand."""
@@ -35,18 +37,28 @@ def parser():
     p.add_argument("--json", action="store_true", help="print one JSON list, an entry a sheet")
     p.add_argument("--plot", metavar="FILE.svg", help="also draw the pressures; with several sheets each has "
                    "its own picture, FILE-1-NAME.svg and so on")
+    p.add_argument("--least", metavar="PRESSURE", type=desk_limits.least, help="the lowest pressure that a hydrant may "
+                   "have, as 10m, 15psi or 33ft; 0 if not given")
+    p.add_argument("--within", metavar="TOLERANCES", type=desk_limits.within, default={}, help="how far heads and "
+                   "flows may be from what the laws say, as 0.1ft,0.001cfs (so it is if not given) or one of the two")
     p.add_argument("--explain", action="store_true", help="print the sheets' records with their byte offsets")
     p.add_argument("--sheet", metavar="TEXTFILE", help="turn a scheme in the text form into a sheet")
     p.add_argument("-o", dest="out", metavar="FILE.sheet", help="where --sheet writes it")
     return p
 
 
+def limits(options):
+    given = dict(options.within, **({} if options.least is None else {"lowest": options.least}))
+    return desk_limits.USUAL._replace(**given)
+
+
 def check(p, options):
     """Ends with a message where the arguments do not go together."""
+    asks = options.json or options.plot or options.least is not None or options.within
     if options.sheet is not None:
         if options.out is None:
             p.error("--sheet needs -o FILE.sheet")
-        if options.files or options.json or options.plot or options.explain:
+        if options.files or options.explain or asks:
             p.error("--sheet goes with -o alone")
         if os.path.abspath(options.out) == os.path.abspath(options.sheet):
             p.error("-o would write over the text")
@@ -54,7 +66,7 @@ def check(p, options):
         p.error("-o goes with --sheet")
     elif not options.files:
         p.error("name a sheet")
-    elif options.explain and (options.json or options.plot):
+    elif options.explain and asks:
         p.error("--explain goes alone")
     elif options.plot is not None and not options.plot.endswith(".svg"):
         # else `--plot a.sheet b.sheet` would write over a sheet
@@ -104,12 +116,20 @@ def picture_name(plot, number, path, several):
     return "%s-%d-%s%s" % (stem, number, name, ending)
 
 
-def answer_all(options, solve):
+def answer_to(path, data, asked, ask):
+    (reply,) = ask([data], asked)
+    answer = Answer(path, data, reply, asked)
+    if answer.listing.number == desk_unsettled.USED_UP:
+        answer.refusal.why += desk_unsettled.words(answer, ask(desk_unsettled.coarser(data), asked))
+    return answer
+
+
+def answer_all(options, ask):
     """Solves each sheet and prints it, or all of them as JSON at the end."""
     several, answers = len(options.files) > 1, []
 
     def one(number, path, data):
-        answer = Answer(path, data, solve(data))
+        answer = answer_to(path, data, limits(options), ask)
         answers.append(answer)
         if options.plot:
             write(picture_name(options.plot, number, path, several), desk_plot.picture(answer).encode())
@@ -151,20 +171,20 @@ def gravest(statuses):
     return next(status for status in GRAVEST_FIRST if status in statuses)
 
 
-def run(options, solve):
+def run(options, ask):
     if options.sheet is not None:
         return make_sheet(options.sheet, options.out)
     if options.explain:
         return explain_all(options.files)
-    return answer_all(options, solve)
+    return answer_all(options, ask)
 
 
-def main(args, solve=desk_program.solve):
+def main(args, ask=desk_program.ask):
     p = parser()
     options = p.parse_args(args)
     check(p, options)
     try:
-        return gravest(run(options, solve))
+        return gravest(run(options, ask))
     except (BadUse, desk_program.NotToBeHad) as error:
         complain(str(error))
         return BAD_USE

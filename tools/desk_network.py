@@ -1,4 +1,5 @@
-"""Which links conduct at an answer, and the junctions whose head nothing determines.
+"""Which links conduct at an answer, and the junctions whose head nothing determines. The proved program decides
+whether there are any; this names them all.
 
 The rule, from the coefficients that the solver gives each link (the original's pipe.rs and valve.rs):
 
@@ -30,6 +31,16 @@ SHUT_VALVE = SHUT_PIPE | {STATUSES.index("FixedClosed")}
 OPEN_VALVE = {STATUSES.index(name) for name in ("Open", "FixedOpen")}
 # the end at which an Active regulator holds a head
 HOLDS = {"PRV": "end", "PSV": "start"}
+
+
+def serves(node):
+    """A junction in service."""
+    return node["kind"] == JUNCTION and not node["disabled"]
+
+
+def is_hydrant(node):
+    """A junction in service that asks for water."""
+    return serves(node) and node["demand"] > 0
 
 
 def in_service(link, nodes):
@@ -98,8 +109,7 @@ def undetermined(nodes, links, statuses, flows):
     beside = neighbours(nodes, links, lambda number, link: in_service(link, nodes)
                         and conducts(link, statuses[number], flows[number]))
     determined = set(reached(sorted(held(nodes, links, statuses)), beside))
-    return [i for i, node in enumerate(nodes)
-            if node["kind"] == JUNCTION and not node["disabled"] and i not in determined]
+    return [i for i, node in enumerate(nodes) if serves(node) and i not in determined]
 
 
 def along(nodes, links, heads):

@@ -119,9 +119,9 @@ def bar(answer, frame, node):
     yield line(x - frame.slot / 2, frame.y(elevation), x + frame.slot / 2, frame.y(elevation), GROUND, 2.4)
     figure = bar_figure(answer, frame, node)
     if frame.slot >= 44:
-        yield text(x, upper - 5, figure, anchor="middle")
+        yield text(x, upper - 5, figure, "d" if node in answer.low else "", "middle")
     else:
-        yield text(x + 4, upper - 5, figure, turn=-90)
+        yield text(x + 4, upper - 5, figure, "d" if node in answer.low else "", turn=-90)
     yield text(x, frame.bottom + 16, str(node), "d" if node in answer.grounded else "", "middle")
 
 
@@ -225,8 +225,8 @@ def legend(answer, frame):
         drawn += [draw(x, y), text(x + 22, y, words)]
         x += wide
     y += LINE + 2
-    drawn.append(text(LEFT, y, "A bar's length is the pressure; the figure on it is the pressure in %s."
-                      % answer.units.pressure))
+    drawn.append(text(LEFT, y, "A bar's length is the pressure; the figure on it is the pressure in %s%s."
+                      % (answer.units.pressure, ", red where it is too low" if answer.low else "")))
     if any(map(frame.outside, answer.listing.heads)):
         y += LINE + 2
         drawn.append(text(LEFT, y, "%s or %s: the head lies beyond the picture." % (UP, DOWN)))
@@ -241,7 +241,7 @@ def title(answer, width):
     y = 24
     for words in textwrap.wrap(answer.first_line(), int((width - 32) / 7.3)):
         y += LINE
-        drawn.append(text(16, y, words, "" if answer.clean else "d"))
+        drawn.append(text(16, y, words, "" if answer.may_be_sold else "d"))
     return drawn, y
 
 

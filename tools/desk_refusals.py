@@ -1,7 +1,7 @@
 """What a refusal means: the record, the field where it can be told, and what to mend."""
 import sheet_bounds
 from desk_words import counted, link_words, node_words
-from sheet_format import BYTES
+from sheet_format import BYTES, LINK_KINDS
 
 MEANINGS = {
     1: "a record cannot be read as the layout says",
@@ -171,9 +171,16 @@ def ran_away(data, place):
 
 
 def used_up(data, place):
+    """Advice that the sheet does not follow yet. What still moved is known to desk_unsettled.py."""
+    found, _ = sheet_bounds.records(data)
+    options, kinds = found[0][2], [fields["kind"] for _, mark, fields in found if mark == b"LK"]
+    advice = [("allow more trials (up to %d)" % sheet_bounds.MOST_TRIALS, place < sheet_bounds.MOST_TRIALS),
+              ("set a damping limit", options["damping_limit"] == 0),
+              ("give the links other first flows", True),
+              ("give another setting to a PRV or PSV that flips between two statuses",
+               any(LINK_KINDS[kind] in ("PRV", "PSV") for kind in kinds))]
     return Refusal(8, place, "%s gave no answer" % counted(place, "trial"),
-                   "allow more trials (up to %d), a coarser accuracy or a damping limit; a valve that flips "
-                   "between two statuses may need another setting" % sheet_bounds.MOST_TRIALS)
+                   ", or ".join(words for words, fits in advice if fits))
 
 
 EXPLAIN = {1: unreadable, 2: wrong_count, 3: out_of_bounds, 4: wrong_ends, 5: too_little_room,

@@ -22,6 +22,7 @@ def node_marks(answer, number):
     marks = [("grounded", number in answer.grounded),
              ("head undetermined", number in answer.undetermined),
              ("pressure below 0", node["kind"] == JUNCTION and answer.pressure(number) < 0),
+             ("pressure too low", number in answer.low and answer.pressure(number) >= 0),
              ("out of service", node["disabled"])]
     return ", ".join(mark for mark, there in marks if there)
 

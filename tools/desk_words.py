@@ -40,8 +40,24 @@ def flow_words(units, *flows):
     return figures[0] + " cfs" + (" (%s %s)" % (figures[1], units.flow) if figures[1:] else "")
 
 
-def pressure_words(units, feet):
-    return "%s ft (%s %s)" % (fixed(feet, 2), fixed(feet * units.per_foot, 2), units.pressure)
+def small_flow(units, x):
+    """A flow that is near zero when all is well."""
+    return "%s cfs" % small(x) + (" (%s %s)" % (small(x * units.per_cfs), units.flow) if units.flow != "CFS" else "")
+
+
+def pressure_words(units, feet, digits=2):
+    return "%s ft (%s %s)" % (fixed(feet, digits), fixed(feet * units.per_foot, digits), units.pressure)
+
+
+def heads_words(units, *heads):
+    """`100.00 and 80.00 ft`, with a metric flow unit in metres too."""
+    metres = " (%s m)" % listed(fixed(x * METRES_PER_FOOT, 2) for x in heads) if units.metric else ""
+    return listed(fixed(x, 2) for x in heads) + " ft" + metres
+
+
+def apart(a, b):
+    """How many decimals show that two figures are not the same: 2 where those do."""
+    return next((digits for digits in range(2, 17) if fixed(a, digits) != fixed(b, digits)), 17)
 
 
 def counted(count, word):

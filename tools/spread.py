@@ -4,7 +4,8 @@
   spread.py [COUNT [FIRST SECOND]]    COUNT networks a set (700), builds recipe plain
 
 Builds the two, solves each network by both, and prints two tables; a third for
-the networks with a PD; then how often each of them repairs the June shape. "rel" is
+the networks with a PD; then how often each of them repairs the June shape, and the
+verdicts that its answers get. "rel" is
 |a - b| over the greater of the two, node by node, the worst node of a network;
 "ft" the same in feet; "flow" the worst |a - b| over the network's greatest flow.
 Typical is the median over the networks. A network with a head beyond 2,000 ft
@@ -14,16 +15,20 @@ of the demand from what the pressure beside it allows.
 """
 import math
 import sys
+from collections import Counter
 
 import oracle
 import sheet_networks
 import sheet_pressure
 import sheet_rules
+import verdicts
 from sheet_format import Dice, STATUSES, Sheet, decode
 from sheet_networks import Plan, VALVES
 
 UNTAME_HEAD = 2000.0
 SEED = 2026
+# what the bare June pairs get by `recipe`: repaired, or with heads that nothing determines
+JUNE_VERDICTS = {verdicts.REPAIRED: 759, verdicts.UNDETERMINED: 241}
 
 
 def pipes(idle, accuracy):
@@ -197,13 +202,31 @@ def pressure_report(count, first, second):
         print("| %s | %d | %d | %s | %d, %d |" % (name, len(pairs), short, three(worst, 0), *off))
 
 
+def june_family():
+    """Bare June pairs, over mains of 0.001 to 1."""
+    return [sheet_rules.june(k / 1000).encode() for k in range(1, 1001)]
+
+
+def june_verdicts(sheets, texts):
+    """How many get each verdict. The limits are wide: they are not what decides here."""
+    limits = verdicts.Limits(0.0, math.inf, math.inf)
+    return Counter(verdicts.verdict(data, text, limits)[0] for data, text in zip(sheets, texts))
+
+
+def verdict_words(found):
+    return "verdict 2 (repaired) %d, 3 (a head that nothing determines) %d, 0 (may be sold) %d, others %d" % (
+        found[2], found[3], found[0], sum(count for number, count in found.items() if number not in (0, 2, 3)))
+
+
 def june_report(first, second):
-    """How often the June shape is repaired, over mains of 0.001 to 1."""
-    sheets = [sheet_rules.june(k / 1000).encode() for k in range(1, 1001)]
-    freed = [[oracle.Listing(text).freed for text in oracle.listings(build, sheets)]
-             for build in (first, second)]
-    print("June shape, 1,000 mains: repaired by `%s` %d, by `%s` %d, by both %d." % (
+    """How often the June shape is repaired, and what verdicts it gets."""
+    sheets = june_family()
+    texts = [oracle.listings(build, sheets) for build in (first, second)]
+    freed = [[oracle.Listing(text).freed for text in listed] for listed in texts]
+    print("\nJune shape, 1,000 mains: repaired by `%s` %d, by `%s` %d, by both %d." % (
         first, sum(freed[0]), second, sum(freed[1]), sum(a and b for a, b in zip(*freed))))
+    for build, listed in zip((first, second), texts):
+        print("By `%s`: %s." % (build, verdict_words(june_verdicts(sheets, listed))))
 
 
 def main(args):

@@ -1,4 +1,4 @@
-/* Solves a sheet through include/desk.h, then lends each buffer one entry too short and shows that the solve is
+/* Solves a sheet through include/desk.h and asks whether its answer may be sold, then lends each buffer one entry too short and shows that the solve is
    refused and that nothing lent has changed: solve SHEET. */
 #include <stdint.h>
 #include <stdio.h>
@@ -25,10 +25,12 @@ static void fill(struct room *r)
     memset(r, 0x5a, sizeof *r);
 }
 
-static void solve(struct room *r, size_t length, const size_t size[BUFFERS], uint64_t counts[5], double totals[3])
+/* the limits that the desk takes: lowest pressure 0 ft, heads within 0.1 ft, flows within 0.001 cfs */
+static void solve(struct room *r, size_t length, const size_t size[BUFFERS], uint64_t counts[5], double totals[3],
+                  uint64_t verdict[2])
 {
-    desk_solve(sheet, length, r->heads, size[HEADS], r->demands, size[DEMANDS], r->flows, size[FLOWS], r->statuses,
-               size[STATUSES], r->record, size[RECORD], r->scratch, size[SCRATCH], counts, totals);
+    desk_verdict(sheet, length, 0.0, 0.1, 0.001, r->heads, size[HEADS], r->demands, size[DEMANDS], r->flows, size[FLOWS],
+                 r->statuses, size[STATUSES], r->record, size[RECORD], r->scratch, size[SCRATCH], counts, totals, verdict);
 }
 
 /* one entry less than the sheet needs of a buffer: 5 at its place, and the pattern is still there */
@@ -37,7 +39,7 @@ static int refused_when_short(size_t length, const size_t needs[BUFFERS])
     static struct room lent, before;
     for (int place = 0; place < BUFFERS; place++) {
         size_t size[BUFFERS];
-        uint64_t counts[5];
+        uint64_t counts[5], verdict[2];
         double totals[3];
         if (needs[place] == 0)
             continue;
@@ -45,8 +47,9 @@ static int refused_when_short(size_t length, const size_t needs[BUFFERS])
         size[place] = needs[place] - 1;
         fill(&lent);
         fill(&before);
-        solve(&lent, length, size, counts, totals);
-        if (counts[0] != 5 || counts[1] != (uint64_t)place || memcmp(&lent, &before, sizeof lent) != 0) {
+        solve(&lent, length, size, counts, totals, verdict);
+        if (counts[0] != 5 || counts[1] != (uint64_t)place || verdict[0] != 1 || verdict[1] != 5 ||
+            memcmp(&lent, &before, sizeof lent) != 0) {
             printf("buffer %d short: number %d, place %d, or something changed\n", place, (int)counts[0], (int)counts[1]);
             return 0;
         }
@@ -77,7 +80,7 @@ static int later_entries_stay(const struct room *r, const size_t needs[BUFFERS],
 int main(int count, char **words)
 {
     static struct room lent;
-    uint64_t counts[5];
+    uint64_t counts[5], verdict[2];
     double totals[3];
     FILE *file = count == 2 ? fopen(words[1], "rb") : NULL;
     if (file == NULL) {
@@ -87,12 +90,14 @@ int main(int count, char **words)
     size_t length = fread(sheet, 1, sizeof sheet, file), nodes = 0, links = 0;
     fclose(file);
     fill(&lent);
-    solve(&lent, length, most, counts, totals);
+    solve(&lent, length, most, counts, totals, verdict);
     printf("number %d, place %d, %d trials, %d freed, %d grounded\n", (int)counts[0], (int)counts[1], (int)counts[2],
            (int)counts[3], (int)counts[4]);
+    printf("verdict %d, place %d: %s\n", (int)verdict[0], (int)verdict[1],
+           verdict[0] == 0 ? "it may be sold" : "it must not be sold");
     if (counts[0] != 0)
         return 0;
-    for (size_t at = 29; at < length; at += sheet[at] == 'N' ? 45 : 49)
+    for (size_t at = sheet[29] == 'P' ? 47 : 29; at < length; at += sheet[at] == 'N' ? 45 : 49)
         *(sheet[at] == 'N' ? &nodes : &links) += 1;
     for (size_t i = 0; i < nodes; i++)
         printf("node %d: head %.4f ft, demand %.4f cfs\n", (int)i, lent.heads[i], lent.demands[i]);

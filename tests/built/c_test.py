@@ -2,6 +2,7 @@
 compiler and emulator, since the library is for x86-64."""
 import os
 import platform
+import struct
 import subprocess
 import sys
 import tempfile
@@ -44,21 +45,31 @@ class FromC(unittest.TestCase):
         with tempfile.TemporaryDirectory() as folder:
             build = build_here if platform.machine() == "x86_64" else build_by_kit
             command = build(os.path.join(folder, "solve"))
-            for name in ("looped", "june", "night", "document01"):
+            for name in ("looped", "june", "night", "document01", "dry-week/giving-way"):
                 with self.subTest(name):
                     self.check(command, os.path.join(ROOT, "examples", name + ".sheet"))
             refused = said(*command, os.path.join(ROOT, "examples", "refused.sheet"))
-            self.assertEqual(refused, "number 3, place 168, 0 trials, 0 freed, 0 grounded")
+            self.assertEqual(refused.splitlines(), ["number 3, place 168, 0 trials, 0 freed, 0 grounded",
+                                                    "verdict 1, place 3: it must not be sold"])
+
+    def verdict(self, data):
+        """The example's line on it, by what the program `verdict` says under the same limits."""
+        asked = struct.pack("<dddI", 0.0, 0.1, 0.001, len(data)) + data
+        _, number, place = programs.run("verdict", asked).decode("ascii").split("\n", 1)[0].split()
+        sold = "it may be sold" if number == "0" else "it must not be sold"
+        return "verdict %s, place %s: %s" % (number, place, sold)
 
     def check(self, command, path):
         with open(path, "rb") as file:
-            listing = listings.Listing(programs.run("listing", file.read()).decode("ascii"))
+            data = file.read()
+        listing = listings.Listing(programs.run("listing", data).decode("ascii"))
         lines = said(*command, path).splitlines()
         self.assertEqual(lines[0], "number 0, place 0, %d trials, %d freed, %d grounded" % (
             listing.trials, listing.freed, listing.grounded))
         heads = ["node %d: head %.4f ft, demand %.4f cfs" % (i, head, demand)
                  for i, (head, demand) in enumerate(zip(listing.heads, listing.demands))]
-        self.assertEqual(lines[1:-2], heads)
+        self.assertEqual(lines[1], self.verdict(data))
+        self.assertEqual(lines[2:-2], heads)
         self.assertEqual(lines[-2:], ["entries past the sheet's own stay as they were",
                                       "each buffer one entry short: refused with 5 at its place, nothing changed"])
 

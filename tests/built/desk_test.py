@@ -5,9 +5,16 @@
 import json
 import os
 import subprocess
+import sys
+import tempfile
 import unittest
 
 TOP = os.path.dirname(os.path.dirname(os.path.dirname(os.path.abspath(__file__))))
+sys.path.insert(0, os.path.join(TOP, "tools"))
+
+import sheets  # noqa: E402
+from sheet_format import Sheet  # noqa: E402
+
 NOT_FOR_SALE = "; these pressures must not be sold on"
 # first line and exit status of each example
 EXPECTED = {
@@ -36,6 +43,69 @@ def example(name):
 def desk(*args):
     done = subprocess.run(["./desk", *args], cwd=TOP, stdout=subprocess.PIPE, universal_newlines=True, check=False)
     return done.returncode, done.stdout
+
+
+def hill(metres, **options):
+    """A pond at 100 m and a hydrant so far above it, one pipe between them."""
+    s = Sheet(unit="LPS", **options)
+    s.reservoir(head=100.0 / 0.3048)
+    s.junction(elevation=(100.0 + metres) / 0.3048, demand=0.4)
+    s.pipe(0, 1, resistance=20.0)
+    return s.encode()
+
+
+class Made(unittest.TestCase):
+    """Sheets that are no examples."""
+
+    def first(self, data, *args):
+        """First line, exit status and `may_be_sold`, by the page and by JSON."""
+        with tempfile.NamedTemporaryFile(suffix=".sheet") as file:
+            file.write(data)
+            file.flush()
+            status, page = desk(*args, file.name)
+            (found,) = json.loads(desk("--json", *args, file.name)[1])
+        self.assertEqual((found["first_line"], found["exit_status"]), (page.splitlines()[0], status))
+        self.assertEqual(found["may_be_sold"], found["verdict"]["number"] == 0)
+        return found["first_line"], status, found["verdict"]
+
+    def test_a_hydrant_without_pressure_is_not_sold(self):
+        for metres in (37.85, 1e6):
+            line, status, verdict = self.first(hill(metres))
+            self.assertEqual((status, verdict), (3, {"number": 8, "place": 1}))
+            self.assertTrue(line.endswith("the lowest allowed is 0.00 ft (0.00 m)" + NOT_FOR_SALE), line)
+        self.assertIn(" but hydrant 1 has -", line)
+
+    def test_a_lowest_pressure(self):
+        for least, status in (("18m", 0), ("19m", 3), ("26psi", 0), ("27psi", 3)):
+            self.assertEqual(self.first(hill(-20.0), "--least", least)[1], status, least)
+
+    def test_a_coarse_accuracy_is_not_sold(self):
+        line, status, verdict = self.first(hill(-20.0, accuracy=1000.0))
+        self.assertEqual((status, verdict), (3, {"number": 5, "place": 0}))
+        self.assertIn("the flow of link 0 (pipe 0 -> 1), ", line)
+        self.assertEqual(self.first(hill(-20.0, accuracy=1000.0), "--within", "10ft")[1], 0)
+        self.assertEqual(self.first(hill(-20.0))[1], 0)
+
+    def test_tolerances_of_nothing(self):
+        self.assertEqual(self.first(sheets.EXAMPLES["looped"].encode(), "--within=0ft,0cfs")[1], 3)
+
+    def test_what_moved_when_the_trials_were_used_up(self):
+        for name, words in (("real-77-120", "; it may be that a PRV or a PSV changes its status again and again: look at link 1 "),
+                            ("real-77-144", "; no trial ends it at any accuracy, so a PRV or a PSV changes "),
+                            ("real-77-162", "; between trial 10 and trial 30 ")):
+            _, seed, number = name.split("-")
+            data = sheets.MAKERS["real"](int(seed), int(number)).data
+            line, status, verdict = self.first(data)
+            self.assertEqual((status, verdict), (1, {"number": 1, "place": 8}), name)
+            self.assertIn(" trials gave no answer" + words, line)
+
+    def test_a_file_longer_than_any_sheet(self):
+        good = hill(-20.0)
+        for data, line in ((bytes(70000), "refused, number 1 at place 0: "),
+                           (good + b"LK" * 40000, "refused, number 1 at place ")):
+            found, status, verdict = self.first(data)
+            self.assertTrue(found.startswith(line), found)
+            self.assertEqual((status, verdict), (1, {"number": 1, "place": 1}))
 
 
 class Desk(unittest.TestCase):

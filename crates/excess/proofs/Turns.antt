@@ -11,7 +11,7 @@ use Rattle.links.specs.Links.{linkStart, linkEnd, regulator}
 use Rattle.layout.specs.declared.places.Layout.{Layout}
 use Rattle.columns.specs.Columns.{cleared, addTo, takeFrom}
 use Rattle.columns.proofs.Laws.{add-long, take-long}
-use Rattle.excess.specs.Excess.{present, minusZero, lessDemands, shifted, withFlows, excessOf}
+use Rattle.excess.specs.Excess.{present, minusZero, lessDemands, shifted, withFlows, imbalanceOf, excessOf}
 
 -- a number of a node is a place of a column over the nodes
 pub below : {j k n m l : ℕ} → k < n → j ≡ k → n ≤ l → m ≡ l → j < m
@@ -50,10 +50,14 @@ pub flows-next : (s : List ℕ) (l : Layout) (q : List Float) (i : ℕ) (e₀ e 
 unfolding withFlows
 flows-next s l q i e₀ e f a b ha hb h k = rw (add-one i, k, h, ha, hb)
 
+pub imbalance-of : (s : List ℕ) (l : Layout) (d q e f g : List Float) → f ≡ lessDemands d (l .nodes) e → g ≡ withFlows s l q (l .links) f → g ≡ imbalanceOf s l d q e
+unfolding imbalanceOf
+imbalance-of s l d q e f g p r = rw (r, p)
+
 module _ (s : List ℕ) (l : Layout) (d q e : List Float) (found : Bool) (told : found ≡ present s l (l .links)) where
-  pub excess-with : (f g : List Float) → found ≡ true → f ≡ lessDemands d (l .nodes) e → g ≡ withFlows s l q (l .links) f → g ≡ excessOf s l d q e
+  pub excess-with : (g : List Float) → found ≡ true → g ≡ imbalanceOf s l d q e → g ≡ excessOf s l d q e
   unfolding excessOf
-  excess-with f g t p r = rw (r, p, sym told ∙ t)
+  excess-with g t p = rw (p, sym told ∙ t)
 
   pub excess-without : (g : List Float) → found ≡ false → g ≡ cleared (l .nodes) e → g ≡ excessOf s l d q e
   unfolding excessOf

@@ -33,7 +33,12 @@ unfolding shifted
 withFlows s l q zero e = e
 withFlows s l q (suc k) e = shifted (withFlows s l q k e) (linkStart s l k) (linkEnd s l k) (getD q k nan)
 
+-- what flows into each node, less what flows out and the demand, over a column e, whose entries past the nodes stay
+unfoldable pub imbalanceOf : List ℕ → Layout → List Float → List Float → List Float → List Float
+unfolding lessDemands withFlows
+imbalanceOf s l d q e = withFlows s l q (l .links) (lessDemands d (l .nodes) e)
+
 -- the excess flows over a column e, whose entries past the nodes stay
 unfoldable pub excessOf : List ℕ → Layout → List Float → List Float → List Float → List Float
-unfolding present lessDemands withFlows cleared
-excessOf s l d q e = cond (present s l (l .links)) (withFlows s l q (l .links) (lessDemands d (l .nodes) e)) (cleared (l .nodes) e)
+unfolding present imbalanceOf cleared
+excessOf s l d q e = cond (present s l (l .links)) (imbalanceOf s l d q e) (cleared (l .nodes) e)

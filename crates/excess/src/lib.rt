@@ -1,10 +1,11 @@
-// The excess flows: what flows into each node beyond its demand, where a PRV or PSV is present.
+// What flows into each node beyond its demand; and the excess flows, which are that where a PRV or
+// PSV is present.
 ghost use mathlib.Core.Path.{_≡_};
 ghost use Prim.Native.Nat.{_<_, _≤_};
 ghost use lib.ListN.{length};
 ghost use Rattle.layout.specs.Places.{Laid};
 ghost use Rattle.links.specs.Links.{EndsIn};
-ghost use Rattle.excess.specs.Excess.{present, lessDemands, shifted, withFlows, excessOf};
+ghost use Rattle.excess.specs.Excess.{present, lessDemands, shifted, withFlows, imbalanceOf, excessOf};
 use columns::add_to;
 use columns::clear;
 use columns::take_from;
@@ -61,6 +62,17 @@ fn move_flows(sheet: &[u8], l: Layout, flows: &[f64], excess: &mut [f64])
     }
 }
 
+// What flows into each node beyond its demand and beyond what flows out.
+pub fn imbalance(sheet: &[u8], l: Layout, demands: &[f64], flows: &[f64], excess: &mut [f64])
+    requires { ⌜ Laid l (now sheet) ⌝ }
+    requires { ⌜ EndsIn l (now sheet) ⌝ }
+    requires { ⌜ (l .nodes ≤ length (now demands)) × ((l .nodes ≤ length (now excess)) × (l .links ≤ length (now flows))) ⌝ }
+    ensures { λ _. ⌜ now (excess .exit) ≡ imbalanceOf (now (sheet .entry)) l (now (demands .entry)) (now (flows .entry)) (now (excess .entry)) ⌝ }
+{
+    start_at_demands(l.nodes, demands, excess);
+    move_flows(sheet, l, flows, excess);
+}
+
 // The excess flow of each node, +0.0 where no PRV or PSV is present.
 pub fn excess_flows(sheet: &[u8], l: Layout, demands: &[f64], flows: &[f64], excess: &mut [f64])
     requires { ⌜ Laid l (now sheet) ⌝ }
@@ -69,8 +81,7 @@ pub fn excess_flows(sheet: &[u8], l: Layout, demands: &[f64], flows: &[f64], exc
     ensures { λ _. ⌜ now (excess .exit) ≡ excessOf (now (sheet .entry)) l (now (demands .entry)) (now (flows .entry)) (now (excess .entry)) ⌝ }
 {
     if any_regulator(sheet, l) {
-        start_at_demands(l.nodes, demands, excess);
-        move_flows(sheet, l, flows, excess);
+        imbalance(sheet, l, demands, flows, excess);
     } else {
         clear(l.nodes, excess);
     }

@@ -20,7 +20,7 @@ use scatter::link_into_matrix;
 use scatter::link_into_row;
 
 // The coefficients of a link at its flow and status.
-fn coefficients_at(
+pub fn coefficients_at(
     sheet: &[u8],
     l: Layout,
     table: &[u64; 1153],

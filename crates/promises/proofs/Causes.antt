@@ -113,7 +113,7 @@ sheet-number : (s : List ℕ) → numberIn (readOf s) ≡ causeOf baseBounds s
 unfolding readOf
 sheet-number s = cause baseBounds s
 
-least-one : (r : Refusal) → 1 ≤ numberOf r
+pub least-one : (r : Refusal) → 1 ≤ numberOf r
 unfolding numberOf
 least-one (Unreadable p) = omega arith
 least-one NodeCount = omega arith

@@ -25,7 +25,7 @@ use Rattle.nodes.specs.declared.NodeIndex.{NodeIndex}
 use Rattle.damping.specs.declared.steps.Damping.{Damping}
 use Rattle.entries.specs.declared.Entry.{Entry}
 use Rattle.entries.specs.declared.Entry.the-variants.{Freed, Grounded, Singular, Wild, Stepped, Converged}
-use Rattle.trial.specs.Trial.{repairOf, judged, verdict, stepOf, trialOf}
+use Rattle.trial.specs.Trial.{repairOf, judged, stepEntry, stepOf, trialOf}
 use Rattle.entries.specs.Entries.{counted, tallied, none}
 use Rattle.marks.specs.Marks.{markOf, putOf, written}
 use Rattle.entries.specs.declared.Ended.{Ended}
@@ -293,15 +293,15 @@ judged-small o d m = go (convergedOf (relativeChange (m .moved) (m .total) (o .a
     go true x = omega arith
     go false x = omega arith
 
-verdict-small : (f : Found) (o : Options) (d : Damping) (m : Stats) → ((p : ℕ) → f ≡ At p → p < 320) → markOf (verdict f o d m) .2 < 320
-unfolding verdict markOf
-verdict-small (At p) o d m h = h p refl
-verdict-small Nothing o d m h = judged-small o d m
+entry-small : (f : Found) (o : Options) (d : Damping) (m : Stats) → ((p : ℕ) → f ≡ At p → p < 320) → markOf (stepEntry f o d m) .2 < 320
+unfolding stepEntry markOf
+entry-small (At p) o d m h = h p refl
+entry-small Nothing o d m h = judged-small o d m
 
 module _ (s : List ℕ) (l : Layout) (d : Damping) (t : State) (net : Network l s) where
   step-small : (g y x : List Float) → markOf (stepOf s l d t g y x .entry) .2 < 320
   step-small g y x =
-      repairs.step-entry s l d t g y x (λ e. markOf e .2 < 320) (λ h q f m. verdict-small (wildPlace l h q f) (optionsOf s) d m (λ p e. wild-below l h q f p (net .nodes) (net .links) e))
+      repairs.step-entry s l d t g y x (λ e. markOf e .2 < 320) (λ h q f m. entry-small (wildPlace l h q f) (optionsOf s) d m (λ p e. wild-below l h q f p (net .nodes) (net .links) e))
 
   trial-small : markOf (trialOf s l d t .entry) .2 < 320
   unfolding markOf

@@ -22,7 +22,7 @@ use Rattle.damping.specs.Damping.{dampedOf, relativeChange, flowLimit, converge
 use Rattle.columns.specs.Columns.{cleared, addTo, takeFrom, zeros}
 use Rattle.nodes.specs.Nodes.{nodeOf, enabled, fixedNode, inService, tankAt, serving}
 use Rattle.numbering.specs.Numbering.{rowAt, nodeNumbered}
-use Rattle.excess.specs.Excess.{present, lessDemands, withFlows, excessOf}
+use Rattle.excess.specs.Excess.{present, lessDemands, withFlows, imbalanceOf, excessOf}
 use Rattle.excess.specs.Excess as Excess
 use Rattle.rows.specs.Rows.{offRow, onDiagonal}
 use Rattle.assembly.specs.Assembly.{linkAdded, withLinks, demandsTaken, rightOf, groundOf, groundedOf}
@@ -34,7 +34,7 @@ use Rattle.update.specs.Update.{linkUpdate, linkUpdates, updateOf}
 use Rattle.tanks.specs.Tanks.{tankUpdates, tankLinksOf}
 use Rattle.drawn.specs.Drawn.{drawnOf}
 use Rattle.repair.specs.Repair.{touches, regulatesAt, regulatorFrom, regulatorAt, ground, free, repairAt}
-use Rattle.trial.specs.Trial.{repairOf, judged, verdict, stepOf, factored}
+use Rattle.trial.specs.Trial.{repairOf, judged, stepEntry, stepOf, factored}
 use Rattle.entries.specs.Entries.{dampingStart, goingOf}
 use Rattle.runs.specs.Run.{thenRun}
 use Rattle.fields.specs.Fields.{baseBounds, within, allWithin, optionsGood, nodeGood, linkCodes, linkNumbers, linkGood}
@@ -76,7 +76,7 @@ unfoldable lines : Reading → Solved → List ℕ
 lines r o = linesOf r (o .answer) (o .lent .heads) (o .lent .demands) (o .lent .flows) (o .lent .statuses) (o .lent .entries)
 
 computed : lines (Good (plain 2 0 1)) (quickSolve repairOf sheet (plain 2 0 1) blank) ≡ listing
-unfolding lines linesOf headLines resultsFor resultLines blank listing quickSolve told delivered copied balanceOf demandOf supplyOf settledOf finish tallied entry.counted written putOf markOf answerLine recordLines recordLine nodeLines nodeLine linkLines balanceLine numberWord floatWord decimalOf decimalIn hexOf hexIn hexDigit sheet startOf headsFrom demandsFrom flowsFrom codesFrom nodeAt fromBytes littleEndian quickRun quickTrial quickSystem excessOf present cleared withLinks demandsTaken rightOf bentMatrix bentRight counting groundedOf groundOf rowAt serving inService nodeOf linkOf linkStart linkEnd linkStatus linkPlace offRow takeFrom onDiagonal addTo zeros factorOf factorization.columns reduced less divided fill rootOf rootBits scaled exponent moved wholeRoot wholeRootIn factored repairOf repairAt free regulatorAt regulatorFrom ground nodeNumbered stepOf solvedHeads withHead solved substitution.before substitution.forward substitution.after substitution.back updateOf linkUpdates tankLinksOf tankUpdates tankAt drawnOf wildPlace wildDrawn firstWild wildFrom wildOf verdict judged relativeChange convergedOf flowLimit unit.factorOf unit.factors optionsOf pairAt dampedOf dampingStart goingOf thenRun lt le eq neg add sub sum mul div round units odd size span climb ofBits ofFields toBits isNan trailingZeros leadingZeros
+unfolding lines linesOf headLines resultsFor resultLines blank listing quickSolve told delivered copied balanceOf demandOf supplyOf settledOf finish tallied entry.counted written putOf markOf answerLine recordLines recordLine nodeLines nodeLine linkLines balanceLine numberWord floatWord decimalOf decimalIn hexOf hexIn hexDigit sheet startOf headsFrom demandsFrom flowsFrom codesFrom nodeAt fromBytes littleEndian quickRun quickTrial quickSystem excessOf present cleared withLinks demandsTaken rightOf bentMatrix bentRight counting groundedOf groundOf rowAt serving inService nodeOf linkOf linkStart linkEnd linkStatus linkPlace offRow takeFrom onDiagonal addTo zeros factorOf factorization.columns reduced less divided fill rootOf rootBits scaled exponent moved wholeRoot wholeRootIn factored repairOf repairAt free regulatorAt regulatorFrom ground nodeNumbered stepOf solvedHeads withHead solved substitution.before substitution.forward substitution.after substitution.back updateOf linkUpdates tankLinksOf tankUpdates tankAt drawnOf wildPlace wildDrawn firstWild wildFrom wildOf stepEntry judged relativeChange convergedOf flowLimit unit.factorOf unit.factors optionsOf pairAt dampedOf dampingStart goingOf thenRun lt le eq neg add sub sum mul div round units odd size span climb ofBits ofFields toBits isNan trailingZeros leadingZeros
 computed = refl
 
 -- document 01's example: the listing of its sheet is its whole output
@@ -97,7 +97,7 @@ unfolding freedSheet tooShort optionsOf pairAt littleEndian blank zeros
 freed-enough = refl
 
 freed-computed : lines (Good (plain 2 1 1)) (quickSolve repairOf freedSheet (plain 2 1 1) blank) ≡ freedListing
-unfolding lines linesOf headLines resultsFor resultLines blank freedListing quickSolve told delivered copied balanceOf demandOf supplyOf settledOf finish tallied entry.counted written putOf markOf answerLine recordLines recordLine nodeLines nodeLine linkLines balanceLine numberWord floatWord decimalOf decimalIn hexOf hexIn hexDigit freedSheet startOf headsFrom demandsFrom flowsFrom codesFrom nodeAt fromBytes littleEndian quickRun quickTrial quickSystem excessOf present cleared withLinks demandsTaken rightOf bentMatrix bentRight counting groundedOf groundOf rowAt serving inService nodeOf linkOf linkStart linkEnd linkStatus linkPlace offRow takeFrom onDiagonal addTo zeros factorOf factorization.columns reduced less divided fill rootOf rootBits scaled exponent moved wholeRoot wholeRootIn factored repairOf repairAt free regulatorAt regulatorFrom ground nodeNumbered stepOf solvedHeads withHead solved substitution.before substitution.forward substitution.after substitution.back updateOf linkUpdates tankLinksOf tankUpdates tankAt drawnOf wildPlace wildDrawn firstWild wildFrom wildOf verdict judged relativeChange convergedOf flowLimit unit.factorOf unit.factors optionsOf pairAt dampedOf dampingStart goingOf thenRun lt le eq neg add sub sum mul div round units odd size span climb ofBits ofFields toBits isNan trailingZeros leadingZeros linkAdded enabled lessDemands withFlows Excess.shifted regulator regulatesAt touches linkAt linkUpdate linkLine suppliedBy fixedNode statusOf linkKindOf
+unfolding lines linesOf headLines resultsFor resultLines blank freedListing quickSolve told delivered copied balanceOf demandOf supplyOf settledOf finish tallied entry.counted written putOf markOf answerLine recordLines recordLine nodeLines nodeLine linkLines balanceLine numberWord floatWord decimalOf decimalIn hexOf hexIn hexDigit freedSheet startOf headsFrom demandsFrom flowsFrom codesFrom nodeAt fromBytes littleEndian quickRun quickTrial quickSystem excessOf imbalanceOf present cleared withLinks demandsTaken rightOf bentMatrix bentRight counting groundedOf groundOf rowAt serving inService nodeOf linkOf linkStart linkEnd linkStatus linkPlace offRow takeFrom onDiagonal addTo zeros factorOf factorization.columns reduced less divided fill rootOf rootBits scaled exponent moved wholeRoot wholeRootIn factored repairOf repairAt free regulatorAt regulatorFrom ground nodeNumbered stepOf solvedHeads withHead solved substitution.before substitution.forward substitution.after substitution.back updateOf linkUpdates tankLinksOf tankUpdates tankAt drawnOf wildPlace wildDrawn firstWild wildFrom wildOf stepEntry judged relativeChange convergedOf flowLimit unit.factorOf unit.factors optionsOf pairAt dampedOf dampingStart goingOf thenRun lt le eq neg add sub sum mul div round units odd size span climb ofBits ofFields toBits isNan trailingZeros leadingZeros linkAdded enabled lessDemands withFlows Excess.shifted regulator regulatesAt touches linkAt linkUpdate linkLine suppliedBy fixedNode statusOf linkKindOf
 freed-computed = refl
 
 -- a repair and what it leaves, from the sheet's bytes to the listing's

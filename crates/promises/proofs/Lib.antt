@@ -9,8 +9,10 @@ pub mod Once
 pub mod Solves
 pub mod Counts
 pub mod Unmended
+pub mod RepairsShown
 pub mod Buffers
 pub mod Causes
 pub mod One
 pub mod Quick
 pub mod Example
+pub mod Sold

@@ -36,7 +36,7 @@ use Rattle.entries.specs.declared.Entry.the-variants.{Freed, Grounded, Singular
 use Rattle.damping.specs.declared.steps.Damping.{Damping}
 use Rattle.links.specs.declared.LinkIndex.{LinkIndex}
 use Rattle.repair.proofs.Laws.{regulator-below, regulator-is, repair-frees, repair-grounds, repair-singular}
-use Rattle.trial.specs.Trial.{Outcome, outcome, repairOf, judged, verdict, stepOf, factored, systemOf, factorsOf, trialWith, trialOf}
+use Rattle.trial.specs.Trial.{Outcome, outcome, repairOf, judged, stepEntry, stepOf, factored, systemOf, factorsOf, trialWith, trialOf}
 use Rattle.promises.specs.Repairs.{stopNode, stopOf, Lowest, NoneAt, Frees, Grounds, Refuses, freedIn, groundedIn, fails, Spared}
 use Rattle.promises.proofs.Never.{other, never}
 
@@ -114,14 +114,14 @@ judged-steps o d m = go (convergedOf (relativeChange (m .moved) (m .total) (o .a
     go true x = refl
     go false x = refl
 
-verdict-steps : (f : Found) (o : Options) (d : Damping) (m : Stats) → fails (verdict f o d m) ≡ false
-unfolding verdict fails
-verdict-steps (At p) o d m = refl
-verdict-steps Nothing o d m = judged-steps o d m
+entry-steps : (f : Found) (o : Options) (d : Damping) (m : Stats) → fails (stepEntry f o d m) ≡ false
+unfolding stepEntry fails
+entry-steps (At p) o d m = refl
+entry-steps Nothing o d m = judged-steps o d m
 
 module _ (s : List ℕ) (l : Layout) (d : Damping) (t : State) where
-  -- what a step comes to is its verdict: whatever holds of every verdict holds of it
-  pub step-entry : (g y x : List Float) (P : Entry → Type 0) → ((h q f : List Float) (m : Stats) → P (verdict (wildPlace l h q f) (optionsOf s) d m)) → P (stepOf s l d t g y x .entry)
+  -- what a step comes to is an entry: whatever holds of every such entry holds of it
+  pub step-entry : (g y x : List Float) (P : Entry → Type 0) → ((h q f : List Float) (m : Stats) → P (stepEntry (wildPlace l h q f) (optionsOf s) d m)) → P (stepOf s l d t g y x .entry)
   unfolding stepOf
   step-entry g y x P each =
       let h = solvedHeads s l x (l .nodes) (t .heads) in
@@ -131,7 +131,7 @@ module _ (s : List ℕ) (l : Layout) (d : Damping) (t : State) where
 
   -- a step is no failure
   pub step-holds : (g y x : List Float) → fails (stepOf s l d t g y x .entry) ≡ false
-  step-holds g y x = step-entry g y x (λ e. fails e ≡ false) (λ h q f m. verdict-steps (wildPlace l h q f) (optionsOf s) d m)
+  step-holds g y x = step-entry g y x (λ e. fails e ≡ false) (λ h q f m. entry-steps (wildPlace l h q f) (optionsOf s) d m)
 
   stopped : (v : ℕ) (a : System) (z : List Float) (f : Factored) → stopNode s l f ≡ At v → factored repairOf s l d t a z f ≡ repairOf s l t v
   unfolding factored stopNode

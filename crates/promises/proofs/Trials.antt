@@ -23,7 +23,7 @@ use Rattle.update.specs.declared.Stats.{Stats}
 use Rattle.damping.specs.declared.steps.Damping.{Damping}
 use Rattle.entries.specs.declared.Entry.{Entry}
 use Rattle.entries.specs.declared.Entry.the-variants.{Freed, Grounded, Singular, Wild, Stepped, Converged}
-use Rattle.trial.specs.Trial.{Outcome, repairOf, judged, verdict, stepOf}
+use Rattle.trial.specs.Trial.{Outcome, repairOf, judged, stepEntry, stepOf}
 use Rattle.entries.specs.Entries.{dampingStart, goingOf}
 use Rattle.entries.specs.declared.Going.{Going}
 use Rattle.entries.specs.declared.Going.the-variants.{On, Over}
@@ -105,14 +105,14 @@ judged-in o d m r = go (convergedOf change (o .accuracy) (m .changed) (m .larges
     go true = r
     go false = in-range (d .factor) r (d .previous) change (o .damping)
 
-verdict-in : (f : Found) (o : Options) (d : Damping) (m : Stats) → InRange (d .factor) → InRange (dampingAfter d (verdict f o d m) .factor)
-unfolding verdict dampingAfter
-verdict-in (At p) o d m r = r
-verdict-in Nothing o d m r = judged-in o d m r
+entry-in : (f : Found) (o : Options) (d : Damping) (m : Stats) → InRange (d .factor) → InRange (dampingAfter d (stepEntry f o d m) .factor)
+unfolding stepEntry dampingAfter
+entry-in (At p) o d m r = r
+entry-in Nothing o d m r = judged-in o d m r
 
 module _ (s : List ℕ) (l : Layout) where
   step-in : (d : Damping) (t : State) → InRange (d .factor) → (g y x : List Float) → InRange (dampingAfter d (stepOf s l d t g y x .entry) .factor)
-  step-in d t r g y x = step-entry s l d t g y x (λ e. InRange (dampingAfter d e .factor)) (λ h q f m. verdict-in (wildPlace l h q f) (optionsOf s) d m r)
+  step-in d t r g y x = step-entry s l d t g y x (λ e. InRange (dampingAfter d e .factor)) (λ h q f m. entry-in (wildPlace l h q f) (optionsOf s) d m r)
 
   -- A trial keeps the damping factor from 0.25 to 1.
   pub kept-in-range : (p : Point) → InRange (p .damping .factor) → InRange (next s l p .damping .factor)

@@ -19,9 +19,9 @@ use Rattle.drawn.specs.Drawn.{draws, drawnOf}
 use Rattle.damping.specs.declared.steps.Damping.{Damping}
 use Rattle.entries.specs.declared.Entry.{Entry}
 use Rattle.entries.specs.declared.Entry.the-variants.{Wild, Stepped, Converged}
-use Rattle.step.specs.Step.{outcome, judged, verdict, stepOf}
+use Rattle.step.specs.Step.{outcome, judged, stepEntry, stepOf}
 
--- ---- the verdict
+-- ---- what it comes to
 
 module _ (o : Options) (d : Damping) (m : Stats) (change : Float) (moved : change ≡ relativeChange (m .moved) (m .total) (o .accuracy)) (b : Bool)
     (tested : b ≡ convergedOf change (o .accuracy) (m .changed) (m .largest) (o .unit) (o .change)) where
@@ -34,13 +34,13 @@ module _ (o : Options) (d : Damping) (m : Stats) (change : Float) (moved : chang
   judged-stepped factor f t = rw (← moved, ← tested, t, f)
 
 module _ (o : Options) (d : Damping) (f : Found) (m : Stats) where
-  pub verdict-wild : (p : ℕ) → f ≡ At p → Wild p ≡ verdict f o d m
-  unfolding verdict
-  verdict-wild p e = rw e
+  pub entry-wild : (p : ℕ) → f ≡ At p → Wild p ≡ stepEntry f o d m
+  unfolding stepEntry
+  entry-wild p e = rw e
 
-  pub verdict-judged : (o' : Options) (r : Entry) → f ≡ Nothing → o' ≡ o → r ≡ judged o' d m → r ≡ verdict f o d m
-  unfolding verdict
-  verdict-judged o' r e h j = rw (e, ← h) j
+  pub entry-judged : (o' : Options) (r : Entry) → f ≡ Nothing → o' ≡ o → r ≡ judged o' d m → r ≡ stepEntry f o d m
+  unfolding stepEntry
+  entry-judged o' r e h j = rw (e, ← h) j
 
 -- ---- the calls of a step
 
@@ -49,7 +49,7 @@ pub step-of : (s : List ℕ) (l : Layout) (d : Damping) (t : State) (g y x h q w
     → stepping q codes m ≡ updateOf s l (basis h g y (d .factor)) (t .flows) (t .statuses)
     → tanks w codes' ≡ tankLinksOf s l h q (t .demands) codes
     → draws f m' ≡ drawnOf s l h (d .factor) w (draws (t .drawn) m)
-    → r ≡ verdict (wildPlace l h q f) (optionsOf s) d m'
+    → r ≡ stepEntry (wildPlace l h q f) (optionsOf s) d m'
     → outcome r (state h w f q codes' (t .grounded)) ≡ stepOf s l d t g y x
 unfolding stepOf
 step-of s l d t g y x h q w f codes codes' m m' r eh eu et ef er = rw (← eh, ← eu, ← et, ← ef, er)

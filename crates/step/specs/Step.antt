@@ -36,20 +36,20 @@ judged o d m =
     (Stepped (record { factor = dampedOf (d .factor) (d .previous) change (o .damping); previous = change }))
 
 -- the test for 7 comes first
-unfoldable pub verdict : Found → Options → Damping → Stats → Entry
+unfoldable pub stepEntry : Found → Options → Damping → Stats → Entry
 unfolding judged
-verdict (At place) o d m = Wild place
-verdict Nothing o d m = judged o d m
+stepEntry (At place) o d m = Wild place
+stepEntry Nothing o d m = judged o d m
 
--- a step with the solved unknowns x: heads, flows and statuses, tank links, drawn flows, then the verdict
+-- a step with the solved unknowns x: heads, flows and statuses, tank links, drawn flows, then what it comes to
 unfoldable pub stepOf : List ℕ → Layout → Damping → State → List Float → List Float → List Float → Outcome
-unfolding verdict
+unfolding stepEntry
 stepOf s l d t g y x =
     let h = solvedHeads s l x (l .nodes) (t .heads) in
     let u = updateOf s l (basis h g y (d .factor)) (t .flows) (t .statuses) in
     let w = tankLinksOf s l h (u .flows) (t .demands) (u .codes) in
     let f = drawnOf s l h (d .factor) (w .demands) (draws (t .drawn) (u .stats)) in
-    outcome (verdict (wildPlace l h (u .flows) (f .drawn)) (optionsOf s) d (f .stats)) (state h (w .demands) (f .drawn) (u .flows) (w .codes) (t .grounded))
+    outcome (stepEntry (wildPlace l h (u .flows) (f .drawn)) (optionsOf s) d (f .stats)) (state h (w .demands) (f .drawn) (u .flows) (w .codes) (t .grounded))
 
 -- the columns are long enough for the nodes and links
 pub record Room (l : Layout) (t : State) : Type 0 where

@@ -1,5 +1,5 @@
 // A trial's step once its matrix is factored: heads, flows and statuses, tank links, drawn
-// flows, then the verdict.
+// flows, then what it comes to.
 ghost use mathlib.Core.Path.{_≡_};
 ghost use Prim.Native.Nat.{_≤_};
 ghost use lib.ListN.{length};

@@ -18,7 +18,7 @@ use Rattle.repair.specs.Repair.{repairAt}
 use Rattle.entries.specs.declared.Entry.the-variants.{Singular}
 use Rattle.damping.specs.declared.steps.Damping.{Damping}
 pub use Rattle.step.specs.Step.{Outcome, outcome, Room}
-unfoldable pub use Rattle.step.specs.Step.{judged, verdict, stepOf}
+unfoldable pub use Rattle.step.specs.Step.{judged, stepEntry, stepOf}
 
 -- what a factorization that stopped at a node leads to
 abbrev pub Repair : Type 0

@@ -7,7 +7,7 @@ use Rattle.columns.specs.Columns.{zeros}
 use Rattle.answers.specs.Answers.{Solved}
 use Rattle.trial.specs.Trial.{repairOf}
 use Rattle.listing_text.specs.Listing.{blank}
-use Rattle.listing_text.proofs.Trials.{solve-trials}
+use Rattle.solver.proofs.Trials.{solve-trials}
 use Rattle.listing_text.proofs.Told.{listed}
 use Rattle.listing_text.proofs.compose.Statement.{statement}
 use Rattle.listing_text.proofs.compose.Tie as tie

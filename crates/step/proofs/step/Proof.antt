@@ -3,7 +3,7 @@ use native.Mathlib.Omega.{arith}
 use mathlib.Core.Path.{sym, _∙_}
 use borrow.Author.Needs.{needs}
 use Rattle.layout.proofs.Laws.{options-within}
-use Rattle.step.proofs.Laws.{step-of, verdict-wild, verdict-judged}
+use Rattle.step.proofs.Laws.{step-of, entry-wild, entry-judged}
 use Rattle.step.proofs.step.Statement.{statement}
 use Rattle.step.proofs.step.Tie as tie
 
@@ -69,7 +69,7 @@ returns c =
     let f = drawn-of w in
     let t = tank-of f in
     let u = update-of t in
-    step-of _ _ _ _ _ _ _ _ _ _ _ _ _ _ _ _ (put-of u .put-heads .ensures) (u .update-links .ensures) (t .tank-links .ensures) (f .update-drawn .ensures) (verdict-wild _ _ _ _ _ (sym (w .wild-place .ensures) ∙ c .before .place .given .1))
+    step-of _ _ _ _ _ _ _ _ _ _ _ _ _ _ _ _ (put-of u .put-heads .ensures) (u .update-links .ensures) (t .tank-links .ensures) (f .update-drawn .ensures) (entry-wild _ _ _ _ _ (sym (w .wild-place .ensures) ∙ c .before .place .given .1))
 
 returns-2 : tie.Need-returns-2
 returns-2 c =
@@ -78,7 +78,7 @@ returns-2 c =
     let f = drawn-of w in
     let t = tank-of f in
     let u = update-of t in
-    step-of _ _ _ _ _ _ _ _ _ _ _ _ _ _ _ _ (put-of u .put-heads .ensures) (u .update-links .ensures) (t .tank-links .ensures) (f .update-drawn .ensures) (verdict-judged _ _ _ _ _ _ (sym (w .wild-place .ensures) ∙ o .before .enum-told .given .1) (o .options-of .ensures) (c .judge .ensures))
+    step-of _ _ _ _ _ _ _ _ _ _ _ _ _ _ _ _ (put-of u .put-heads .ensures) (u .update-links .ensures) (t .tank-links .ensures) (f .update-drawn .ensures) (entry-judged _ _ _ _ _ _ (sym (w .wild-place .ensures) ∙ o .before .enum-told .given .1) (o .options-of .ensures) (c .judge .ensures))
 
 same-length : tie.Need-same-length
 same-length c =

@@ -1,0 +1,2 @@
+-- The specs of `conducting`.
+pub mod Conducting

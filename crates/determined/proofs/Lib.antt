@@ -1,0 +1,4 @@
+pub mod Laws
+pub mod Columns
+pub mod Meaning
+pub mod Examples

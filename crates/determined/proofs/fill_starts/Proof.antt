@@ -1,0 +1,46 @@
+-- `determined::fill_starts` meets its contract. Assumes nothing.
+use native.Mathlib.Omega.{arith}
+use Prim.Native.Nat.{_-_}
+use Rattle.links.specs.Links.{linkStart}
+use Rattle.determined.proofs.Laws.{Filled, none-filled, next-filled, all-filled}
+use Rattle.determined.proofs.fill_starts.Statement.{statement}
+use Rattle.determined.proofs.fill_starts.Tie as tie
+
+abbrev Inv-loop : tie.InvT-loop
+Inv-loop sheet l starts₀ j₀ j-end starts j = Filled (linkStart sheet l) (l .links) starts₀ starts j
+
+abbrev μ-loop : tie.MeasureT-loop
+μ-loop sheet l starts₀ j₀ j-end starts j = l .links - j
+
+loop-holds : tie.Need-loop-holds Inv-loop μ-loop
+loop-holds c = none-filled _ _ _
+
+link-start-requires : tie.Need-link-start-requires Inv-loop μ-loop
+link-start-requires c κs = (c .before .before .before .before .pre .0, c .loop-test .taken)
+
+loop-again : tie.Need-loop-again Inv-loop μ-loop
+loop-again c =
+    let t = c .before in
+    next-filled _ _ _ _ _ _ (t .before .loop .inv) (t .loop-test .taken) (c .link-start .ensures)
+
+same-length : tie.Need-same-length Inv-loop μ-loop
+same-length c = c .before .loop .inv .long
+
+returns : tie.Need-returns Inv-loop μ-loop
+returns c = all-filled _ _ _ _ _ (c .before .loop .inv) (c .loop-test .left)
+
+pub fill-starts-spec : {M : Type 1} → statement M
+fill-starts-spec =
+    tie.close
+    (tie.spec
+    Inv-loop
+    μ-loop
+    loop-holds
+    link-start-requires
+    (λ c. omega arith)
+    (λ c. omega arith)
+    (λ c. omega arith)
+    (λ c. omega arith)
+    loop-again
+    same-length
+    returns)

@@ -1,0 +1,3 @@
+-- The specs of `determined`.
+pub mod Determined
+pub mod Joins

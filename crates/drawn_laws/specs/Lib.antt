@@ -1,0 +1,2 @@
+-- The specs of `drawn_laws`.
+pub mod DrawnLaws

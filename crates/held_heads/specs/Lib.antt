@@ -1,0 +1,2 @@
+-- The specs of `held_heads`.
+pub mod Held

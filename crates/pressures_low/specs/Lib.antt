@@ -1,0 +1,2 @@
+-- The specs of `pressures_low`.
+pub mod Low

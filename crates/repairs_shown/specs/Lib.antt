@@ -1,0 +1,2 @@
+-- The specs of `repairs_shown`.
+pub mod Shown

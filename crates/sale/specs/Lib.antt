@@ -1,0 +1,2 @@
+-- The specs of `sale`.
+pub mod Sale

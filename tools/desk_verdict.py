@@ -1,0 +1,68 @@
+"""A verdict in words: the node or link at its place, and the figure that speaks against a sale. The proved program
+decides; figures are worked out here only to be told."""
+from desk_network import HOLDS, is_hydrant, serves
+from desk_words import apart, counted, flow_words, heads_words, link_words, node_words, pressure_words, small_flow
+from sheet_format import LINK_KINDS
+
+SOLD, REFUSED, REPAIRED, UNDETERMINED, UNBALANCED, MOVED, NOT_HELD, NOT_DRAWN, TOO_LOW = range(9)
+
+
+def excess(answer, node):
+    """What flows into a node, less what flows out and is drawn there."""
+    flows = list(zip(answer.links, answer.listing.flows))
+    return (sum(q for link, q in flows if link["end"] == node) - sum(q for link, q in flows if link["start"] == node)
+            - answer.listing.demands[node])
+
+
+def unbalanced(answer, node):
+    return "at %s what flows in and what is taken differ by %s, and %s is allowed" % (
+        node_words(node, answer.nodes[node]), small_flow(answer.units, abs(excess(answer, node))),
+        small_flow(answer.units, answer.limits.flow))
+
+
+def moved(answer, number):
+    link = answer.links[number]
+    return "the flow of %s, %s, does not go with the heads at its ends, %s" % (
+        link_words(number, link), flow_words(answer.units, answer.listing.flows[number]),
+        heads_words(answer.units, *(answer.listing.heads[link[end]] for end in ("start", "end"))))
+
+
+def not_held(answer, number):
+    link = answer.links[number]
+    node = link[HOLDS[LINK_KINDS[link["kind"]]]]
+    gap = answer.listing.heads[node] - (link["setting"] + answer.nodes[node]["elevation"])
+    return "the head of node %d is %.2g ft from the one that %s is set to hold, and %.2g ft is allowed" % (
+        node, abs(gap), link_words(number, link), answer.limits.head)
+
+
+def not_drawn(answer, node):
+    return "what node %d draws does not fit the pressure there" % node
+
+
+def lowest_allowed(answer, node):
+    """In feet: where water is asked the lowest pressure, but everywhere 0 at least."""
+    return max(answer.limits.lowest, 0.0) if is_hydrant(answer.nodes[node]) else 0.0
+
+
+def low_nodes(answer):
+    """The junctions in service whose pressure is too low."""
+    return [i for i, node in enumerate(answer.nodes)
+            if serves(node) and not answer.pressure(i) >= lowest_allowed(answer, i)]
+
+
+def too_low(answer, node):
+    pressure, lowest = answer.pressure(node), lowest_allowed(answer, node)
+    digits = apart(pressure, lowest)
+    more = len([i for i in low_nodes(answer) if i != node])
+    return "%s %d has %s, the lowest allowed is %s%s" % (
+        "hydrant" if is_hydrant(answer.nodes[node]) else "node", node,
+        pressure_words(answer.units, pressure, digits), pressure_words(answer.units, lowest, digits),
+        "" if not more else ", and %s too low" % (counted(more, "more node") + (" is" if more == 1 else " are")))
+
+
+TOLD = {UNBALANCED: unbalanced, MOVED: moved, NOT_HELD: not_held, NOT_DRAWN: not_drawn, TOO_LOW: too_low}
+
+
+def words(answer):
+    """Those of the verdicts that no table tells."""
+    return [TOLD[answer.verdict](answer, answer.place)] if answer.verdict in TOLD else []
