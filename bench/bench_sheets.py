@@ -5,9 +5,9 @@ import os
 import sys
 
 ROOT = os.path.dirname(os.path.dirname(os.path.abspath(__file__)))
-sys.path.insert(0, os.path.join(ROOT, "tools"))
+sys.path[:0] = [ROOT, os.path.join(ROOT, "tools")]
 
-from sheet_format import Dice, Sheet  # noqa: E402
+from coordinator.sheet_format import Dice, Sheet  # noqa: E402
 from sheet_networks import Plan, build  # noqa: E402
 
 SIZES = (10, 30, 64)

@@ -7,6 +7,7 @@ import io
 import json
 import os
 import re
+import shutil
 import subprocess
 import sys
 import tempfile
@@ -14,29 +15,19 @@ import unittest
 import xml.etree.ElementTree as ElementTree
 
 TOP = os.path.dirname(os.path.dirname(os.path.abspath(__file__)))
-sys.path.insert(0, os.path.join(TOP, "tools"))
+sys.path[:0] = [TOP, os.path.join(TOP, "tools")]
 
-import desk_answer
-import desk_drawn
-import desk_json
-import desk_limits
-import desk_main
-import desk_network
-import desk_plot
-import desk_program
-import desk_refusals
-import desk_text
-import desk_unsettled
-import desk_words
-import listings
-import programs
-import sheet_bounds
-import sheet_text
 import sheets
 import verdicts
-from desk_limits import USUAL
-from desk_program import Reply
-from sheet_format import STATUSES, Sheet, bits
+from coordinator import (as_json, asking, listings, network, pages, pictures, programs, refusals, sheet_bounds, sheet_text,
+                         unsettled)
+from coordinator.answer import Answer, record_words
+from coordinator.asking import Reply
+from coordinator.drawn import SERVED, allowed
+from coordinator.limits import USUAL, Limits, least, within
+from coordinator.main import main, parser
+from coordinator.sheet_format import STATUSES, Sheet, bits
+from coordinator.words import fixed, listed, numbered
 from stored import read
 
 # the stored list's listings, with the program that replays them
@@ -57,7 +48,7 @@ def reply(data, text, limits=USUAL):
 
 
 def answer_to(name, data, text, limits=USUAL):
-    return desk_answer.Answer(name, data, reply(data, text, limits), limits)
+    return Answer(name, data, reply(data, text, limits), limits)
 
 
 def answer(name, limits=USUAL):
@@ -71,7 +62,7 @@ def made(sheet, heads, drawn, flows=(), trials=3, verdict=(0, 0), limits=USUAL, 
     lines += ["N %d %016x %016x" % (i, bits(head), bits(flow)) for i, (head, flow) in enumerate(zip(heads, drawn))]
     lines += ["L %d %016x %d" % (i, bits(flow), status) for i, (flow, status) in enumerate(zip(flows, statuses))]
     lines += ["B %016x %016x %016x" % (bits(1.0), bits(0.75), bits(0.25))]
-    return desk_answer.Answer("made.sheet", sheet.encode(), Reply(*verdict, "\n".join(lines) + "\n"), limits)
+    return Answer("made.sheet", sheet.encode(), Reply(*verdict, "\n".join(lines) + "\n"), limits)
 
 
 def row(*pressures, minimum=0.0, required=64.0, unit="CFS", asked=0.5, limits=USUAL):
@@ -79,11 +70,11 @@ def row(*pressures, minimum=0.0, required=64.0, unit="CFS", asked=0.5, limits=US
     each draws what its pressure allows, or what stands beside the pressure."""
     s = Sheet(pressures=(minimum, required), unit=unit)
     s.reservoir(head=100.0)
-    pairs = [p if isinstance(p, tuple) else (p, desk_drawn.allowed(asked, p, s.pd)) for p in pressures]
+    pairs = [p if isinstance(p, tuple) else (p, allowed(asked, p, s.pd)) for p in pressures]
     for k in range(len(pairs)):
         s.junction(elevation=10.0, demand=asked)
         s.pipe(k, k + 1)
-    strays = [k for k, (p, q) in enumerate(pairs, 1) if abs(q - desk_drawn.allowed(asked, p, s.pd)) > limits.flow]
+    strays = [k for k, (p, q) in enumerate(pairs, 1) if abs(q - allowed(asked, p, s.pd)) > limits.flow]
     return made(s, [100.0] + [10.0 + p for p, _ in pairs], [0.0] + [q for _, q in pairs], [0.5] * len(pairs),
                 verdict=(7, strays[0]) if strays else (0, 0), limits=limits)
 
@@ -102,7 +93,7 @@ def desk(*args):
     out, err = io.StringIO(), io.StringIO()
     with contextlib.redirect_stdout(out), contextlib.redirect_stderr(err):
         try:
-            status = desk_main.main(list(args), stored_ask)
+            status = main(list(args), stored_ask)
         except SystemExit as end:
             status = end.code
     return status, out.getvalue(), err.getvalue()
@@ -164,17 +155,17 @@ class FirstLines(unittest.TestCase):
 
 class Pages(unittest.TestCase):
     def test_the_page_in_the_readme(self):
-        page = desk_text.page(answer("june-both-repaired"), False)
+        page = pages.page(answer("june-both-repaired"), False)
         self.assertEqual(block_after("README.md", "./desk examples/june.sheet"), page)
 
     def test_every_stored_case_has_a_page(self):
         for name in BY_NAME:
-            page = desk_text.page(answer(name), True)
+            page = pages.page(answer(name), True)
             self.assertTrue(page.startswith(name + ": "), name)
             self.assertTrue(page.endswith("\n") and not page.endswith("\n\n"), name)
 
     def test_pressure_is_head_less_elevation(self):
-        page = desk_text.page(answer("june-both-not-repaired"), False)
+        page = pages.page(answer("june-both-not-repaired"), False)
         self.assertRegex(page, r"\n +3  junction +35\.00 +30\.00 +13\.00 +0\.2500\n")
 
     def test_a_metric_sheet_shows_metres_and_its_flow_unit(self):
@@ -184,33 +175,33 @@ class Pages(unittest.TestCase):
         s.pipe(0, 1)
         text = "A 0 0 1 0 0\nT OK 0\nN 0 %016x %016x\nN 1 %016x %016x\nL 0 %016x 1\nB %016x %016x %016x\n" % tuple(
             map(bits, (100.0, 0.0, 90.0, 1.0, 1.0, 1.0, 1.0, 0.0)))
-        page = desk_text.page(answer_to("x", s.encode(), text), False)
+        page = pages.page(answer_to("x", s.encode(), text), False)
         self.assertRegex(page, r"head ft +head m +pressure ft +pressure m +demand cfs +demand LPS")
         self.assertRegex(page, r"\n +1  junction +90\.00 +27\.43 +80\.00 +24\.38 +1\.0000 +28\.32\n")
 
     def test_a_changed_status_is_marked(self):
-        page = desk_text.page(answer("june-both-repaired"), False)
+        page = pages.page(answer("june-both-repaired"), False)
         self.assertRegex(page, r"\n +2  PRV .* XPressure +changed, was Active, freed\n")
         self.assertRegex(page, r"\n +1  pipe .* Open\n")
 
     def test_the_record_in_words(self):
-        words = desk_answer.record_words(answer("june-both-repaired"))
+        words = record_words(answer("june-both-repaired"))
         self.assertEqual([(first, last) for first, last, _ in words], [(1, 1), (2, 12), (13, 13)])
         self.assertIn("link 2 (PRV 2 -> 3) was freed", words[0][2])
         self.assertEqual(words[2][2], "converged")
 
     def test_what_goes_into_a_tank_is_no_error(self):
-        page = desk_text.page(answer("tank-overflow"), False)
+        page = pages.page(answer("tank-overflow"), False)
         self.assertIn("\nBalance\n  demand 0.0000 cfs, supply 0.0000 cfs, error 0 cfs\n\nTrials\n", page)
 
     def test_figures(self):
-        self.assertEqual(desk_words.fixed(-0.0001, 2), "0.00")
-        self.assertEqual(desk_words.fixed(-0.01, 2), "-0.01")
-        self.assertEqual(desk_words.fixed(-1234567890.0, 2), "-1.235e+09")
-        self.assertEqual(desk_words.numbered("node", [4]), "node 4")
-        self.assertEqual(desk_words.numbered("node", [1, 2]), "nodes 1 and 2")
-        self.assertEqual(desk_words.numbered("node", [1, 2, 3, 7]), "nodes 1 to 3 and 7")
-        self.assertEqual(desk_words.listed(["a", "b", "c"]), "a, b and c")
+        self.assertEqual(fixed(-0.0001, 2), "0.00")
+        self.assertEqual(fixed(-0.01, 2), "-0.01")
+        self.assertEqual(fixed(-1234567890.0, 2), "-1.235e+09")
+        self.assertEqual(numbered("node", [4]), "node 4")
+        self.assertEqual(numbered("node", [1, 2]), "nodes 1 and 2")
+        self.assertEqual(numbered("node", [1, 2, 3, 7]), "nodes 1 to 3 and 7")
+        self.assertEqual(listed(["a", "b", "c"]), "a, b and c")
 
 
 def keys(value):
@@ -228,12 +219,12 @@ def undocumented(value):
 
 
 def picture_words(found):
-    root = ElementTree.fromstring(desk_plot.picture(found))
+    root = ElementTree.fromstring(pictures.picture(found))
     return " ".join("".join(element.itertext()) for element in root.iter() if element.tag.endswith("}text"))
 
 
 def everything(found):
-    return desk_text.page(found, True) + desk_json.document([found]) + desk_plot.picture(found)
+    return pages.page(found, True) + as_json.document([found]) + pictures.picture(found)
 
 
 class GivingWay(unittest.TestCase):
@@ -242,13 +233,13 @@ class GivingWay(unittest.TestCase):
     def test_what_a_pressure_allows(self):
         pd = {"minimum": 10.0, "required": 74.0}
         for pressure, share in ((-1e9, 0.0), (10.0, 0.0), (26.0, 0.5), (46.0, 0.75), (74.0, 1.0), (1e9, 1.0)):
-            self.assertEqual(desk_drawn.allowed(2.0, pressure, pd), 2.0 * share)
+            self.assertEqual(allowed(2.0, pressure, pd), 2.0 * share)
 
     def test_the_range_is_a_tenth_of_a_foot_at_least(self):
         for required in (3.0, 3.05):
             pd = {"minimum": 3.0, "required": required}
-            self.assertAlmostEqual(desk_drawn.allowed(1.0, 3.025, pd), 0.5)
-            self.assertEqual(desk_drawn.allowed(1.0, 3.2, pd), 1.0)
+            self.assertAlmostEqual(allowed(1.0, 3.025, pd), 0.5)
+            self.assertEqual(allowed(1.0, 3.2, pd), 1.0)
 
     def test_only_a_junction_in_service_that_asks_is_a_hydrant(self):
         s = Sheet(pressures=(0.0, 64.0))
@@ -305,7 +296,7 @@ class GivingWay(unittest.TestCase):
             self.assertEqual(hydrant.fits, fits, drawn)
 
     def test_what_counts_as_served_in_the_papers(self):
-        self.assertIn("%g of what it asks" % desk_drawn.SERVED, read("docs/DESK.md").decode())
+        self.assertIn("%g of what it asks" % SERVED, read("docs/DESK.md").decode())
 
     def test_a_repair_and_a_lack_are_both_told(self):
         found = row(64.0, 16.0)
@@ -316,7 +307,7 @@ class GivingWay(unittest.TestCase):
                    "0.5000 cfs, but with a repair: node 1 was tied to a reservoir that is not there" + NOT_FOR_SALE, 3)
 
     def test_the_page(self):
-        page = desk_text.page(row(64.0, 16.0, unit="LPS"), False)
+        page = pages.page(row(64.0, 16.0, unit="LPS"), False)
         self.assertRegex(page, r"\n +node +kind .*pressure m +drawn cfs +drawn LPS\n")
         self.assertIn("\nHydrants\n  no water at a pressure of 0.00 ft (0.00 m) or below, all that is asked from "
                       "64.00 ft (19.51 m) on\n"
@@ -325,10 +316,10 @@ class GivingWay(unittest.TestCase):
                       "     2     0.5000      14.16     0.2500       7.08     0.2500       7.08     50.0\n\n", page)
         self.assertIn("\nBalance\n  asked 1.0000 cfs, supply 0.7500 cfs, error 0.25 cfs, of which the hydrants lack "
                       "0.2500 cfs\n", page)
-        self.assertIn("does not fit its pressure, which allows 0.0000 cfs\n", desk_text.page(row((-1.0, 0.5)), False))
+        self.assertIn("does not fit its pressure, which allows 0.0000 cfs\n", pages.page(row((-1.0, 0.5)), False))
 
     def test_the_json(self):
-        (found,) = json.loads(desk_json.document([row(64.0, 16.0, (-1.0, 0.5), unit="LPS")]))
+        (found,) = json.loads(as_json.document([row(64.0, 16.0, (-1.0, 0.5), unit="LPS")]))
         self.assertEqual((found["may_be_sold"], found["exit_status"], found["short"], found["unfit"]),
                          (False, 3, [2], [3]))
         self.assertEqual((found["pressures"]["minimum_ft"], found["pressures"]["required_ft"]), (0.0, 64.0))
@@ -441,14 +432,14 @@ class Verdicts(unittest.TestCase):
         found.verdict, found.place = 8, 2
         self.assertIn(", but hydrant 2 has 4.00 ft (1.73 psi), the lowest allowed is 10.00 ft (4.33 psi), and 1 more node "
                       "is too low;", found.first_line())
-        page = desk_text.page(found, False)
+        page = pages.page(found, False)
         self.assertEqual(page.count("pressure too low\n"), 2)
         self.assertIn("red where it is too low", picture_words(found))
 
     def test_only_a_verdict_that_speaks_of_heads_names_any(self):
         data, text = BY_NAME["june-undetermined"]
         for verdict, place, nodes in ((3, 1, [1, 2]), (3, 0, [0, 1, 2]), (2, 0, [1, 2]), (8, 1, []), (0, 0, [])):
-            found = desk_answer.Answer("x", data, Reply(verdict, place, text))
+            found = Answer("x", data, Reply(verdict, place, text))
             self.assertEqual(found.undetermined, nodes)
 
     def test_7_is_told_even_where_the_desk_finds_none(self):
@@ -468,7 +459,7 @@ class Verdicts(unittest.TestCase):
         self.assertEqual(seen, set(range(9)))
 
     def test_the_json(self):
-        (found,) = json.loads(desk_json.document([two((8, 1), (100.0, 9.0), limits=USUAL._replace(lowest=5.0))]))
+        (found,) = json.loads(as_json.document([two((8, 1), (100.0, 9.0), limits=USUAL._replace(lowest=5.0))]))
         self.assertEqual((found["verdict"], found["may_be_sold"]), ({"number": 8, "place": 1}, False))
         self.assertEqual([found["limits"][key] for key in ("lowest_pressure_ft", "head_ft", "flow_cfs")],
                          [5.0, 0.1, 0.001])
@@ -478,12 +469,12 @@ class LimitsGiven(unittest.TestCase):
     def test_a_pressure_with_its_unit(self):
         for text, feet in (("10m", 10.0 / 0.3048), ("10 m", 10.0 / 0.3048), ("43.33PSI", 43.33 / 0.4333), ("1e1ft", 10.0),
                            ("-3 ft", -3.0), ("0ft", 0.0)):
-            self.assertEqual(desk_limits.least(text), feet)
+            self.assertEqual(least(text), feet)
 
     def test_tolerances(self):
         for text, found in (("0.2ft", {"head": 0.2}), ("28.317 lps", {"flow": 1.0}), ("3.048m,1cfs", {"head": 10.0, "flow": 1.0}),
                             ("0 cfs , 0 psi", {"head": 0.0, "flow": 0.0})):
-            self.assertEqual(desk_limits.within(text), found)
+            self.assertEqual(within(text), found)
 
     def refused(self, *args):
         status, out, err = desk(*args, example("june-unrepaired"))
@@ -513,7 +504,7 @@ class LimitsGiven(unittest.TestCase):
 
         with contextlib.redirect_stdout(io.StringIO()):
             for args in ((), ("--least", "10ft"), ("--within", "1ft"), ("--within=2cfs,1ft", "--least=5ft")):
-                desk_main.main([*args, example("june-unrepaired")], ask)
+                main([*args, example("june-unrepaired")], ask)
         self.assertEqual(asked, [(0.0, 0.1, 0.001), (10.0, 0.1, 0.001), (0.0, 1.0, 0.001), (5.0, 1.0, 2.0)])
 
     def test_a_lowest_pressure_makes_the_difference(self):
@@ -525,43 +516,43 @@ class LimitsGiven(unittest.TestCase):
     def test_the_usual_ones_in_the_papers(self):
         self.assertTrue("%g ft and %g cfs" % USUAL[1:] in read("docs/DESK.md").decode())
         self.assertIn("%gft,%gcfs (so it is if not given)" % USUAL[1:],
-                      " ".join(desk_main.parser().format_help().split()))
+                      " ".join(parser().format_help().split()))
 
 
 class Program(unittest.TestCase):
     """What the proved program is sent and what it prints."""
 
     def test_a_question(self):
-        asked = desk_program.question(b"sheet", desk_limits.Limits(1.0, 2.0, 0.5))
+        asked = asking.question(b"sheet", Limits(1.0, 2.0, 0.5))
         self.assertEqual(asked.hex(), "000000000000f03f" "0000000000000040" "000000000000e03f" "05000000" + b"sheet".hex())
 
     def test_replies(self):
-        self.assertEqual(desk_program.replies("V 0 0\nA 0 0 1 0 0\nT OK 0\n--\nV 1 3\nA 3 168 0 0 0\n--\n"),
+        self.assertEqual(asking.replies("V 0 0\nA 0 0 1 0 0\nT OK 0\n--\nV 1 3\nA 3 168 0 0 0\n--\n"),
                          [(0, 0, "A 0 0 1 0 0\nT OK 0\n"), (1, 3, "A 3 168 0 0 0\n")])
-        self.assertEqual(desk_program.of_listing("A 1 65549 0 0 0\n"), (1, 1, "A 1 65549 0 0 0\n"))
+        self.assertEqual(asking.of_listing("A 1 65549 0 0 0\n"), (1, 1, "A 1 65549 0 0 0\n"))
 
     def test_what_cannot_be_read_is_told(self):
-        output = desk_program.output
+        output = asking.output
         try:
             for text in ("", "X\n", "V 0 0\n", "A 0 0 1 0 0\n--\n", "V 0 0\nA 8 40 0 0 0\n--\n", "V 1 8\nA 0 0 1 0 0\n--\n",
                          "V 0\nA 0 0 1 0 0\n--\n", "V 0 0\n\n--\n", "V a b\nA 0 0 1 0 0\n--\n",
                          "V 0 0\nA 0 0 1 0 0\n--\n" * 2, "--\n"):
-                desk_program.output = lambda name, data, text=text: text
-                with self.assertRaises(desk_program.NotToBeHad, msg=repr(text)):
-                    desk_program.ask([b"sheet"], USUAL)
-                with self.assertRaises(desk_program.NotToBeHad):
-                    desk_program.output = lambda name, data: "A 0 0 1 0 0\n"
-                    desk_program.ask([bytes(65537)], USUAL)
+                asking.output = lambda name, data, text=text: text
+                with self.assertRaises(asking.NotToBeHad, msg=repr(text)):
+                    asking.ask([b"sheet"], USUAL)
+                with self.assertRaises(asking.NotToBeHad):
+                    asking.output = lambda name, data: "A 0 0 1 0 0\n"
+                    asking.ask([bytes(65537)], USUAL)
         finally:
-            desk_program.output = output
+            asking.output = output
 
     def test_a_sheet_that_is_too_long_for_it(self):
-        output = desk_program.output
+        output = asking.output
         try:
-            desk_program.output = lambda name, data: {"listing": "A 1 0 0 0 0\n"}[name]
-            self.assertEqual(desk_program.ask([bytes(65537)], USUAL), [(1, 1, "A 1 0 0 0 0\n")])
+            asking.output = lambda name, data: {"listing": "A 1 0 0 0 0\n"}[name]
+            self.assertEqual(asking.ask([bytes(65537)], USUAL), [(1, 1, "A 1 0 0 0 0\n")])
         finally:
-            desk_program.output = output
+            asking.output = output
 
 
 class Unsettled(unittest.TestCase):
@@ -580,7 +571,7 @@ class Unsettled(unittest.TestCase):
 
     def refused(self):
         data = self.sheet.encode()
-        return desk_answer.Answer("x", data, Reply(1, 8, "A 8 %d 0 0 0\n" % self.sheet.op["trials"]))
+        return Answer("x", data, Reply(1, 8, "A 8 %d 0 0 0\n" % self.sheet.op["trials"]))
 
     def stopped(self, trials, flows, statuses=(1, 2, 1), verdict=(0, 0)):
         lines = ["A 0 0 %d 0 0" % trials] + ["L %d %016x %d" % (i, bits(q), s)
@@ -588,17 +579,17 @@ class Unsettled(unittest.TestCase):
         return Reply(*verdict, "\n".join(lines) + "\n")
 
     def words(self, *replies):
-        return desk_unsettled.words(self.refused(), replies)
+        return unsettled.words(self.refused(), replies)
 
     def test_the_sheets_that_are_asked(self):
-        found = [sheets.decode(data) for data in desk_unsettled.coarser(self.sheet.encode())]
+        found = [sheets.decode(data) for data in unsettled.coarser(self.sheet.encode())]
         self.assertEqual([records[1:] for records in found], [sheets.decode(self.sheet.encode())[1:]] * len(found))
         options = [records[0][2] for records in found]
         self.assertEqual([f["accuracy"] for f in options][:2] + [options[-1]["accuracy"]], [0.01, 0.1, 2.0 ** 40])
         self.assertEqual({f["max_flow_change"] for f in options}, {0.0})
         self.assertEqual({f["trials"] for f in options}, {40})
         self.sheet.op["accuracy"] = 2.0 ** 40
-        self.assertEqual(len(desk_unsettled.coarser(self.sheet.encode())), 1)
+        self.assertEqual(len(unsettled.coarser(self.sheet.encode())), 1)
 
     def test_flows_and_statuses_between_two_stops(self):
         refused = Reply(1, 8, "A 8 40 0 0 0\n")
@@ -655,7 +646,7 @@ class Undetermined(unittest.TestCase):
         s.junction()
         ends = (0, 1) if start == "reservoir" else (1, 0)
         s.link(kind, *ends, status=status, **fields)
-        return not desk_network.undetermined(s.nodes, s.links, [STATUSES.index(status)], [flow])
+        return not network.undetermined(s.nodes, s.links, [STATUSES.index(status)], [flow])
 
     def conducting(self, kind, **fields):
         return [status for status in STATUSES if self.beside(kind, status, **fields)]
@@ -695,7 +686,7 @@ class Undetermined(unittest.TestCase):
         s.junction()
         s.junction(disabled=1)
         s.valve("PRV", 1, 0)
-        self.assertEqual(desk_network.undetermined(s.nodes, s.links, [2], [0.0]), [0])
+        self.assertEqual(network.undetermined(s.nodes, s.links, [2], [0.0]), [0])
 
     def test_through_others(self):
         s = Sheet()
@@ -703,8 +694,8 @@ class Undetermined(unittest.TestCase):
         for k in range(4):
             s.junction()
             s.pipe(k, k + 1)
-        self.assertEqual(desk_network.undetermined(s.nodes, s.links, [1, 1, 1, 1], [0.0] * 4), [])
-        self.assertEqual(desk_network.undetermined(s.nodes, s.links, [1, 0, 1, 1], [0.0] * 4), [2, 3, 4])
+        self.assertEqual(network.undetermined(s.nodes, s.links, [1, 1, 1, 1], [0.0] * 4), [])
+        self.assertEqual(network.undetermined(s.nodes, s.links, [1, 0, 1, 1], [0.0] * 4), [2, 3, 4])
 
     def test_the_main_of_the_june_sheets(self):
         self.assertEqual(answer("june-undetermined").undetermined, [1, 2])
@@ -714,7 +705,7 @@ class Undetermined(unittest.TestCase):
     def test_the_rule_in_the_papers(self):
         """Every sentence of the rule stands in docs/DESK.md too."""
         paper = " ".join(read("docs/DESK.md").decode().split())
-        rule = desk_network.__doc__.split("\n\n")[2]
+        rule = network.__doc__.split("\n\n")[2]
         for item in rule.split("\n- "):
             self.assertIn(" ".join(item.lstrip("- ").split()), paper)
 
@@ -751,7 +742,7 @@ class Refusals(unittest.TestCase):
                 (data + b"XY", 74, "58 59 (hexadecimal) at byte 74 is no record's mark: ND or LK may come here"),
                 (b"junction a elevation 3 ft\n", 0, "the file is text and not a sheet"),
                 (b"", 0, "the sheet is empty")):
-            self.assertEqual(desk_refusals.explain(sheet, 1, place).why, words)
+            self.assertEqual(refusals.explain(sheet, 1, place).why, words)
 
     def test_a_pd_that_cannot_be_read(self):
         s = Sheet(pressures=(0.0, 30.0))
@@ -772,7 +763,7 @@ class Refusals(unittest.TestCase):
                 (op + pd + node[:30], 47, "node 0 is cut short: it has 30 of its 45 bytes"),
                 (op + b"XY", 29, "58 59 (hexadecimal) at byte 29 is no record's mark: PD or ND or LK may come here")):
             self.assertEqual(sheet_bounds.reading(sheet), ("R", 1, place))
-            self.assertEqual(desk_refusals.explain(sheet, 1, place).why, words)
+            self.assertEqual(refusals.explain(sheet, 1, place).why, words)
 
     def test_a_pd_outside_its_bounds(self):
         finite = "but must be a finite number of at most 2^40 in magnitude"
@@ -785,7 +776,7 @@ class Refusals(unittest.TestCase):
                 ((0.0, 2.0 ** 41), ["required"], "required is 2199023255552.0 " + finite)):
             s = Sheet(pressures=pair)
             s.reservoir()
-            found = desk_refusals.explain(s.encode(), 3, 29)
+            found = refusals.explain(s.encode(), 3, 29)
             self.assertEqual([name for name, _, _ in found.fields], fields)
             self.assertTrue(found.why.startswith("the pressures record (PD): " + words), found.why)
             self.assertEqual((found.record, found.offset), ("the pressures record (PD)", 29))
@@ -800,10 +791,10 @@ class Refusals(unittest.TestCase):
                 (7, 1, 92, "the head of node 1 (junction) became"),
                 (7, 64, 137, "the flow of link 0 (pipe 0 -> 1) became"),
                 (7, 257, 92, "the flow drawn at node 1 (junction) became no number, infinite or at least 2^64")):
-            found = desk_refusals.explain(s.encode(), number, place)
+            found = refusals.explain(s.encode(), number, place)
             self.assertEqual(found.offset, offset)
             self.assertTrue(found.why.startswith(words), found.why)
-        self.assertEqual(desk_refusals.explain(s.encode(), 7, 258).why, "what is wrong there cannot be told")
+        self.assertEqual(refusals.explain(s.encode(), 7, 258).why, "what is wrong there cannot be told")
 
     def test_counts(self):
         self.assertEqual(self.explained("2-65-nodes").why, "the sheet has 65 nodes; 1 to 64 are allowed")
@@ -814,15 +805,15 @@ class Refusals(unittest.TestCase):
         self.assertIn("the head of node 2", self.explained("7-head").why)
         self.assertIn("the flow of link 0", self.explained("7-flow-at").why)
         self.assertIn("1 trial gave no answer", self.explained("3-trials-1").why)
-        self.assertIn("scratch", desk_refusals.explain(b"", 5, 5).why)
+        self.assertIn("scratch", refusals.explain(b"", 5, 5).why)
 
     def test_a_refusal_that_cannot_be_explained_is_still_told(self):
         s = Sheet()
         s.reservoir()
-        refusal = desk_refusals.explain(s.encode(), 3, 29)
+        refusal = refusals.explain(s.encode(), 3, 29)
         self.assertEqual(refusal.why, "node 0 (reservoir): which field cannot be told")
         for number, place in ((3, 30), (6, 40), (7, 70), (9, 0)):
-            refusal = desk_refusals.explain(s.encode(), number, place)
+            refusal = refusals.explain(s.encode(), number, place)
             self.assertEqual((refusal.number, refusal.place, refusal.why),
                              (number, place, "what is wrong there cannot be told"))
 
@@ -830,12 +821,12 @@ class Refusals(unittest.TestCase):
 class Json(unittest.TestCase):
     def test_every_stored_case(self):
         for name in BY_NAME:
-            (found,) = json.loads(desk_json.document([answer(name)]))
+            (found,) = json.loads(as_json.document([answer(name)]))
             self.assertEqual(found["may_be_sold"], found["exit_status"] == 0, name)
             self.assertEqual("nodes" in found, found["solved"], name)
 
     def test_bits_are_those_of_the_listing(self):
-        (found,) = json.loads(desk_json.document([answer("june-both-repaired")]))
+        (found,) = json.loads(as_json.document([answer("june-both-repaired")]))
         lines = ["N %d %s %s" % (n["node"], n["head_ft_bits"], n["demand_cfs_bits"]) for n in found["nodes"]]
         lines += ["L %d %s %d" % (k["link"], k["flow_cfs_bits"], STATUSES.index(k["status"]))
                   for k in found["links"]]
@@ -846,7 +837,7 @@ class Json(unittest.TestCase):
 
     def test_every_key_is_documented(self):
         for name in ("june-both-repaired", "3-end-2"):
-            self.assertEqual(undocumented(json.loads(desk_json.document([answer(name)]))), [])
+            self.assertEqual(undocumented(json.loads(as_json.document([answer(name)]))), [])
 
 
 class Pictures(unittest.TestCase):
@@ -867,13 +858,13 @@ class Pictures(unittest.TestCase):
 
     def test_the_picture_in_the_papers(self):
         data, text = BY_NAME["june-both-repaired"]
-        made = desk_plot.picture(answer_to("june.sheet", data, text))
+        made = pictures.picture(answer_to("june.sheet", data, text))
         self.assertEqual(read("docs/june.svg").decode(), made)
 
     def test_a_name_with_signs_of_its_own(self):
         data, text = BY_NAME["june-undetermined"]
         for name in ("<a&b>.sheet", "\x01\udc80.sheet"):
-            ElementTree.fromstring(desk_plot.picture(answer_to(name, data, text)).encode())
+            ElementTree.fromstring(pictures.picture(answer_to(name, data, text)).encode())
 
 
 class TextForm(unittest.TestCase):
@@ -1001,6 +992,18 @@ class TextForm(unittest.TestCase):
         self.assertEqual(caught.exception.found, [(2, "this is not text")])
 
 
+class Package(unittest.TestCase):
+    def test_the_desk_needs_nothing_but_its_package(self):
+        """Neither tools/, which serves developers, nor anything else of the repository."""
+        with tempfile.TemporaryDirectory() as folder:
+            shutil.copy(os.path.join(TOP, "desk"), folder)
+            shutil.copytree(os.path.join(TOP, "coordinator"), os.path.join(folder, "coordinator"))
+            done = subprocess.run([os.path.join(folder, "desk"), "--explain", example("june")], stdout=subprocess.PIPE,
+                                  stderr=subprocess.PIPE, universal_newlines=True, check=False)
+            self.assertEqual((done.returncode, done.stderr), (0, ""))
+        self.assertTrue(done.stdout.lstrip().startswith("0  OP"), done.stdout)
+
+
 class Command(unittest.TestCase):
     def setUp(self):
         self.folder = tempfile.TemporaryDirectory()
@@ -1094,8 +1097,8 @@ class Command(unittest.TestCase):
             programs.path = lambda name: self.path("no-" + name)
             os.environ["PATH"] = self.folder.name
             with contextlib.redirect_stderr(io.StringIO()) as err:
-                with self.assertRaises(desk_program.NotToBeHad):
-                    desk_program.ask([b""], USUAL)
+                with self.assertRaises(asking.NotToBeHad):
+                    asking.ask([b""], USUAL)
             self.assertIn("takes some minutes", err.getvalue())
         finally:
             programs.path, os.environ["PATH"] = path, which

@@ -90,7 +90,7 @@ class Edits(unittest.TestCase):
         runs = os.path.join(self.kit, "runs")
         write(runs, "")
         said = io.StringIO()
-        with mock.patch("programs.ROOT", self.root), contextlib.redirect_stdout(said), contextlib.redirect_stderr(said):
+        with mock.patch("coordinator.programs.ROOT", self.root), contextlib.redirect_stdout(said), contextlib.redirect_stderr(said):
             status = edits.main(list(names))
         return status, said.getvalue().splitlines(), checks.read(runs).count("check ")
 

@@ -10,12 +10,12 @@ import sys
 import unittest
 
 ROOT = os.path.dirname(os.path.dirname(os.path.abspath(__file__)))
-sys.path.insert(0, os.path.join(ROOT, "tools"))
+sys.path[:0] = [ROOT, os.path.join(ROOT, "tools")]
 
 import oracle  # noqa: E402
 import power_tables  # noqa: E402
 import sheets  # noqa: E402
-from sheet_format import LINK_KINDS, STATUSES, Sheet, decode  # noqa: E402
+from coordinator.sheet_format import LINK_KINDS, STATUSES, Sheet, decode  # noqa: E402
 
 LIST = os.path.join(ROOT, "crates", "replay")
 EXAMPLES = os.path.join(ROOT, "examples")

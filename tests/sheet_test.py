@@ -5,10 +5,10 @@ import sys
 import unittest
 
 TOP = os.path.dirname(os.path.dirname(os.path.abspath(__file__)))
-sys.path.insert(0, os.path.join(TOP, "tools"))
+sys.path[:0] = [TOP, os.path.join(TOP, "tools")]
 
 import oracle
-import sheet_bounds
+from coordinator import sheet_bounds
 import sheet_reading
 import sheets
 from stored import read

@@ -6,7 +6,7 @@ import sys
 import unittest
 
 ROOT = os.path.dirname(os.path.dirname(os.path.abspath(__file__)))
-sys.path.insert(0, os.path.join(ROOT, "tools"))
+sys.path[:0] = [ROOT, os.path.join(ROOT, "tools")]
 
 import oracle  # noqa: E402
 import sheet_rules  # noqa: E402
@@ -16,7 +16,7 @@ import verdict_measure  # noqa: E402
 import stored  # noqa: E402
 import verdict_stored  # noqa: E402
 import verdicts  # noqa: E402
-from sheet_format import Dice, STATUSES, Sheet, bits, next_down, next_up  # noqa: E402
+from coordinator.sheet_format import Dice, STATUSES, Sheet, bits, next_down, next_up  # noqa: E402
 from stored import read  # noqa: E402
 from verdicts import Limits  # noqa: E402
 

@@ -22,8 +22,9 @@ import tempfile
 import time
 from concurrent.futures import ThreadPoolExecutor
 
-import programs
+import product  # noqa: F401
 from checks import Repository, read
+from coordinator import programs
 
 REFUSED, UNFIT, PROVED, BAD = "refused", "UNFIT", "NOT REFUSED", "BAD EDIT"
 PARTS = ("src", "specs", "proofs")

@@ -10,9 +10,10 @@ import sys
 import time
 
 import oracle
-import programs
+import product  # noqa: F401
 import sheets
-from sheet_format import BYTES, Dice
+from coordinator import programs
+from coordinator.sheet_format import BYTES, Dice
 
 BATCH = 300
 KINDS = ("damaged", "wild", "noise", "real", "pd-damaged", "pd-wild", "pd-noise", "pd-real", "pd-flood", "pd-seeded")

@@ -3,8 +3,9 @@ import os
 import shutil
 import subprocess
 
-from listings import Listing, split
-from sheet_format import pack_many
+import product  # noqa: F401
+from coordinator.listings import Listing, split
+from coordinator.sheet_format import pack_many
 
 __all__ = ["Listing", "build", "lacking", "listings", "program", "run", "split"]
 

@@ -3,10 +3,11 @@ with its neighbour, each rule at its edge, each open point; then seeded ones.
 """
 import math
 
+import product  # noqa: F401
 import sheet_refusals
 import sheet_rules
-from sheet_format import FLOATS, STATUSES, Case, Dice, next_down, next_up
 from sheet_refusals import LIMIT, TINY, VALVES, between
+from coordinator.sheet_format import FLOATS, STATUSES, Case, Dice, next_down, next_up
 
 
 def named():

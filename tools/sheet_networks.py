@@ -6,8 +6,8 @@ the same bytes on every machine.
 import math
 import struct
 
-from sheet_format import (BYTES, Case, Dice, FLOATS, LAYOUT, LINK_KINDS, STATUSES,
-                          Sheet, UNITS, decode)
+import product  # noqa: F401
+from coordinator.sheet_format import BYTES, FLOATS, LAYOUT, LINK_KINDS, STATUSES, UNITS, Case, Dice, Sheet, decode
 
 # Hazen-Williams resistance of one foot of pipe, C = 130, by inches of diameter
 A_FOOT = {4: 0.1212, 6: 0.01682, 8: 0.004143, 10: 0.001397, 12: 0.0005749, 16: 0.0001416}

@@ -4,9 +4,10 @@ cases of its rules, then seeded networks. Its refusals are in sheet_refusals.py.
 A demand bends along drawn = asked · √(pressure over the minimum / range). At nothing and at
 the whole demand the curve ends in slopes of BIG_VALUE.
 """
+import product  # noqa: F401
 import sheet_boundary
 import sheet_refusals
-from sheet_format import STATUSES, Case, Dice, Sheet, next_down
+from coordinator.sheet_format import STATUSES, Case, Dice, Sheet, next_down
 from sheet_networks import Plan, VALVES, anything, build, damage, extreme, options, small
 from sheet_refusals import LIMIT, TINY, between, changed, pressed
 from sheet_rules import june, tank

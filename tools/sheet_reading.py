@@ -3,10 +3,11 @@
 
   sheet_reading.py     writes stdin and stdout of crate sheet_list
 """
+import product  # noqa: F401
 import sheets
 import stored
-from sheet_bounds import reading
-from sheet_format import Sheet, pack_many
+from coordinator.sheet_bounds import reading
+from coordinator.sheet_format import Sheet, pack_many
 
 
 NETWORKS = ("real", "wild", "pd-real", "pd-wild")

@@ -6,7 +6,8 @@ alone can bring it about.
 """
 import math
 
-from sheet_format import Case, FLOATS, LINK_KINDS, Sheet, next_down, next_up
+import product  # noqa: F401
+from coordinator.sheet_format import Case, FLOATS, LINK_KINDS, Sheet, next_down, next_up
 
 LIMIT = 2.0 ** 40
 TINY = 5e-324

@@ -2,7 +2,8 @@
 repairs, refusals 6 to 8, damping, and the open points B01 to B30 that have no
 place among the refusals.
 """
-from sheet_format import LINK_KINDS, PER_CFS, STATUSES, UNITS, Case, Sheet, next_down, next_up
+import product  # noqa: F401
+from coordinator.sheet_format import LINK_KINDS, PER_CFS, STATUSES, UNITS, Case, Sheet, next_down, next_up
 from sheet_refusals import LIMIT, TINY, between, changed, example, pair
 
 HEAD_TOLERANCE = 0.0005

@@ -16,12 +16,13 @@ To build one from a few lines, see sheet_format.py (its names are here too).
 import os
 import sys
 
+import product  # noqa: F401
 import sheet_boundary
 import sheet_networks
 import sheet_pressure
 import sheet_refusals
 import sheet_rules
-from sheet_format import Case, Dice, Sheet, decode, pack_many, shown, unpack_many
+from coordinator.sheet_format import Case, Dice, Sheet, decode, pack_many, shown, unpack_many
 
 __all__ = ["Case", "Dice", "Sheet", "decode", "pack_many", "shown", "unpack_many"]
 

@@ -18,12 +18,13 @@ import sys
 from collections import Counter
 
 import oracle
+import product  # noqa: F401
 import sheet_networks
 import sheet_pressure
 import sheet_rules
 import verdicts
-from sheet_format import Dice, STATUSES, Sheet, decode
 from sheet_networks import Plan, VALVES
+from coordinator.sheet_format import Dice, STATUSES, Sheet, decode
 
 UNTAME_HEAD = 2000.0
 SEED = 2026

@@ -9,10 +9,10 @@ import tempfile
 import unittest
 
 ROOT = os.path.dirname(os.path.dirname(os.path.dirname(os.path.abspath(__file__))))
-sys.path.insert(0, os.path.join(ROOT, "tools"))
+sys.path[:0] = [ROOT, os.path.join(ROOT, "tools")]
 
-import listings  # noqa: E402
-import programs  # noqa: E402
+from coordinator import listings  # noqa: E402
+from coordinator import programs  # noqa: E402
 
 SOURCE = os.path.join(ROOT, "examples", "c", "solve.c")
 INCLUDE = os.path.join(ROOT, "include")

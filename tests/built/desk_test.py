@@ -10,10 +10,10 @@ import tempfile
 import unittest
 
 TOP = os.path.dirname(os.path.dirname(os.path.dirname(os.path.abspath(__file__))))
-sys.path.insert(0, os.path.join(TOP, "tools"))
+sys.path[:0] = [TOP, os.path.join(TOP, "tools")]
 
 import sheets  # noqa: E402
-from sheet_format import Sheet  # noqa: E402
+from coordinator.sheet_format import Sheet  # noqa: E402
 
 NOT_FOR_SALE = "; these pressures must not be sold on"
 # first line and exit status of each example

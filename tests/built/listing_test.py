@@ -6,10 +6,10 @@ import sys
 import unittest
 
 ROOT = os.path.dirname(os.path.dirname(os.path.dirname(os.path.abspath(__file__))))
-sys.path.insert(0, os.path.join(ROOT, "tools"))
+sys.path[:0] = [ROOT, os.path.join(ROOT, "tools")]
 
 import oracle  # noqa: E402
-import programs  # noqa: E402
+from coordinator import programs  # noqa: E402
 import sheet_reading  # noqa: E402
 import sheets  # noqa: E402
 from stored import read  # noqa: E402

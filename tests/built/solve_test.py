@@ -6,10 +6,10 @@ import time
 import unittest
 
 ROOT = os.path.dirname(os.path.dirname(os.path.dirname(os.path.abspath(__file__))))
-sys.path.insert(0, os.path.join(ROOT, "tools"))
+sys.path[:0] = [ROOT, os.path.join(ROOT, "tools")]
 
 import oracle  # noqa: E402
-import programs  # noqa: E402
+from coordinator import programs  # noqa: E402
 import sheets  # noqa: E402
 
 # kind, seed, count: other seeds than the stored list's

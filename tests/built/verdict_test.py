@@ -9,15 +9,15 @@ import unittest
 from collections import Counter
 
 ROOT = os.path.dirname(os.path.dirname(os.path.dirname(os.path.abspath(__file__))))
-sys.path.insert(0, os.path.join(ROOT, "tools"))
+sys.path[:0] = [ROOT, os.path.join(ROOT, "tools")]
 
-import listings  # noqa: E402
-import programs  # noqa: E402
+from coordinator import listings  # noqa: E402
+from coordinator import programs  # noqa: E402
 import sheet_rules  # noqa: E402
 import sheets  # noqa: E402
 import spread  # noqa: E402
 import verdicts  # noqa: E402
-from sheet_format import next_down, next_up, pack_many  # noqa: E402
+from coordinator.sheet_format import next_down, next_up, pack_many  # noqa: E402
 from verdicts import Limits  # noqa: E402
 
 # kind, seed, count: other seeds than the stored list's

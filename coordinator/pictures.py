@@ -6,9 +6,9 @@ import os
 import textwrap
 from html import escape
 
-from desk_network import HOLDS, along, in_service
-from desk_words import METRES_PER_FOOT, fixed, flow_figures
-from sheet_format import LINK_KINDS, NODE_KINDS
+from .network import HOLDS, along, in_service
+from .sheet_format import LINK_KINDS, NODE_KINDS
+from .words import METRES_PER_FOOT, fixed, flow_figures
 
 COLOURS = {"junction": "#3b78b5", "reservoir": "#1f8f82", "tank": "#7a9a2e"}
 NEGATIVE, DOUBT, GROUND, INK = "#8e44ad", "#c0392b", "#7a5a3a", "#222"

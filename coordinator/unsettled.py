@@ -1,12 +1,12 @@
 """What still moved when the trials were used up: refusal 8, which gives no results. The program is asked about the same
 sheet again at coarser accuracies and with no greatest flow change. Where it stops earlier then, its answers show flows
 and statuses on the way."""
-from desk_network import HOLDS, in_service
-from desk_verdict import MOVED
-from desk_words import counted, listed, numbered, small_flow
-from listings import Listing
-from sheet_bounds import LIMIT, records
-from sheet_format import BYTES, LINK_KINDS, STATUSES, record
+from .listings import Listing
+from .network import HOLDS, in_service
+from .sheet_bounds import LIMIT, records
+from .sheet_format import BYTES, LINK_KINDS, STATUSES, record
+from .verdict import MOVED
+from .words import counted, listed, numbered, small_flow
 
 USED_UP = 8
 # from any accuracy to the greatest that a sheet may have; the program answers all in one run

@@ -19,7 +19,7 @@ or a node that an Active regulator holds. What 1/BIG_VALUE joins is not joined: 
 that is a hundred million times the flow, or whatever the last roundings left. A grounded node is tied to a
 reservoir that is not there, and that determines nothing.
 """
-from sheet_format import LINK_KINDS, NODE_KINDS, STATUSES
+from .sheet_format import LINK_KINDS, NODE_KINDS, STATUSES
 
 # the solver's tolerance for zero flow, where a check valve's barrier sets in
 Q_ZERO = 1e-6

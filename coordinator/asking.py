@@ -5,8 +5,7 @@ import subprocess
 import sys
 from collections import namedtuple
 
-import listings
-import programs
+from . import listings, programs
 
 NAME = "verdict"
 # longer sheets are asked of this one, which reads any length; all it can do is to refuse them

@@ -1,5 +1,5 @@
 """Words and figures that the desk's pages share."""
-from sheet_format import LINK_KINDS, NODE_KINDS, PER_CFS, UNITS, named
+from .sheet_format import LINK_KINDS, NODE_KINDS, PER_CFS, UNITS, named
 
 # the original's factors: psi and metres of water in a foot of it
 PSI_PER_FOOT, METRES_PER_FOOT = 0.4333, 0.3048

@@ -3,7 +3,7 @@ what it draws fits the pressure beside it. The proved program decides whether al
 hydrant is a junction in service that asks for water. Flows are in cubic feet per second, pressures in feet."""
 import math
 
-from desk_network import is_hydrant
+from .network import is_hydrant
 
 # the least range of pressure that the solver takes: the original's PDA_MIN_DIFF
 LEAST_RANGE = 0.1

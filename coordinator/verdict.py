@@ -1,8 +1,8 @@
 """A verdict in words: the node or link at its place, and the figure that speaks against a sale. The proved program
 decides; figures are worked out here only to be told."""
-from desk_network import HOLDS, is_hydrant, serves
-from desk_words import apart, counted, flow_words, heads_words, link_words, node_words, pressure_words, small_flow
-from sheet_format import LINK_KINDS
+from .network import HOLDS, is_hydrant, serves
+from .sheet_format import LINK_KINDS
+from .words import apart, counted, flow_words, heads_words, link_words, node_words, pressure_words, small_flow
 
 SOLD, REFUSED, REPAIRED, UNDETERMINED, UNBALANCED, MOVED, NOT_HELD, NOT_DRAWN, TOO_LOW = range(9)
 

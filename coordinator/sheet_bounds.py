@@ -2,7 +2,7 @@
 its fields are. The proved program decides; this says in words what it decided."""
 import struct
 
-from sheet_format import BYTES, LAYOUT, LINK_KINDS, NODE_KINDS, STATUSES, UNITS
+from .sheet_format import BYTES, LAYOUT, LINK_KINDS, NODE_KINDS, STATUSES, UNITS
 
 MOST_NODES, MOST_LINKS, MOST_TRIALS = 64, 128, 200
 LIMIT = 2.0 ** 40

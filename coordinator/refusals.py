@@ -1,7 +1,7 @@
 """What a refusal means: the record, the field where it can be told, and what to mend."""
-import sheet_bounds
-from desk_words import counted, link_words, node_words
-from sheet_format import BYTES, LINK_KINDS
+from . import sheet_bounds
+from .sheet_format import BYTES, LINK_KINDS
+from .words import counted, link_words, node_words
 
 MEANINGS = {
     1: "a record cannot be read as the layout says",
@@ -171,7 +171,7 @@ def ran_away(data, place):
 
 
 def used_up(data, place):
-    """Advice that the sheet does not follow yet. What still moved is known to desk_unsettled.py."""
+    """Advice that the sheet does not follow yet. What still moved is known to unsettled.py."""
     found, _ = sheet_bounds.records(data)
     options, kinds = found[0][2], [fields["kind"] for _, mark, fields in found if mark == b"LK"]
     advice = [("allow more trials (up to %d)" % sheet_bounds.MOST_TRIALS, place < sheet_bounds.MOST_TRIALS),

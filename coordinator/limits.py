@@ -4,7 +4,7 @@ import argparse
 import math
 from collections import namedtuple
 
-from sheet_text import FLOW, NUMBER, PRESSURE, Mistake, figure
+from .sheet_text import FLOW, NUMBER, PRESSURE, Mistake, figure
 
 # lowest pressure and tolerance of heads in feet, tolerance of flows in cubic feet per second
 Limits = namedtuple("Limits", "lowest head flow")

@@ -3,15 +3,9 @@ import argparse
 import os
 import sys
 
-import desk_json
-import desk_limits
-import desk_plot
-import desk_program
-import desk_text
-import desk_unsettled
-import sheet_text
-from desk_answer import BAD_USE, CLEAN, DOUBTFUL, REFUSED, Answer
-from sheet_format import shown
+from . import as_json, asking, limits, pages, pictures, sheet_text, unsettled
+from .answer import BAD_USE, CLEAN, DOUBTFUL, REFUSED, Answer
+from .sheet_format import shown
 
 DESCRIPTION = ("Solves network sheets by the proved program and tells a person or a program what came out and "
                "whether it may be sold.")
@@ -37,9 +31,9 @@ def parser():
     p.add_argument("--json", action="store_true", help="print one JSON list, an entry a sheet")
     p.add_argument("--plot", metavar="FILE.svg", help="also draw the pressures; with several sheets each has "
                    "its own picture, FILE-1-NAME.svg and so on")
-    p.add_argument("--least", metavar="PRESSURE", type=desk_limits.least, help="the lowest pressure that a hydrant may "
+    p.add_argument("--least", metavar="PRESSURE", type=limits.least, help="the lowest pressure that a hydrant may "
                    "have, as 10m, 15psi or 33ft; 0 if not given")
-    p.add_argument("--within", metavar="TOLERANCES", type=desk_limits.within, default={}, help="how far heads and "
+    p.add_argument("--within", metavar="TOLERANCES", type=limits.within, default={}, help="how far heads and "
                    "flows may be from what the laws say, as 0.1ft,0.001cfs (so it is if not given) or one of the two")
     p.add_argument("--explain", action="store_true", help="print the sheets' records with their byte offsets")
     p.add_argument("--sheet", metavar="TEXTFILE", help="turn a scheme in the text form into a sheet")
@@ -47,9 +41,9 @@ def parser():
     return p
 
 
-def limits(options):
+def limits_of(options):
     given = dict(options.within, **({} if options.least is None else {"lowest": options.least}))
-    return desk_limits.USUAL._replace(**given)
+    return limits.USUAL._replace(**given)
 
 
 def check(p, options):
@@ -119,8 +113,8 @@ def picture_name(plot, number, path, several):
 def answer_to(path, data, asked, ask):
     (reply,) = ask([data], asked)
     answer = Answer(path, data, reply, asked)
-    if answer.listing.number == desk_unsettled.USED_UP:
-        answer.refusal.why += desk_unsettled.words(answer, ask(desk_unsettled.coarser(data), asked))
+    if answer.listing.number == unsettled.USED_UP:
+        answer.refusal.why += unsettled.words(answer, ask(unsettled.coarser(data), asked))
     return answer
 
 
@@ -129,17 +123,17 @@ def answer_all(options, ask):
     several, answers = len(options.files) > 1, []
 
     def one(number, path, data):
-        answer = answer_to(path, data, limits(options), ask)
+        answer = answer_to(path, data, limits_of(options), ask)
         answers.append(answer)
         if options.plot:
-            write(picture_name(options.plot, number, path, several), desk_plot.picture(answer).encode())
+            write(picture_name(options.plot, number, path, several), pictures.picture(answer).encode())
         if not options.json:
-            print(("\n" if answers[1:] else "") + desk_text.page(answer, several), end="", flush=True)
+            print(("\n" if answers[1:] else "") + pages.page(answer, several), end="", flush=True)
         return answer.exit_status
 
     statuses = each(options.files, one)
     if options.json and answers:
-        print(desk_json.document(answers), end="")
+        print(as_json.document(answers), end="")
     return statuses
 
 
@@ -179,13 +173,13 @@ def run(options, ask):
     return answer_all(options, ask)
 
 
-def main(args, ask=desk_program.ask):
+def main(args, ask=asking.ask):
     p = parser()
     options = p.parse_args(args)
     check(p, options)
     try:
         return gravest(run(options, ask))
-    except (BadUse, desk_program.NotToBeHad) as error:
+    except (BadUse, asking.NotToBeHad) as error:
         complain(str(error))
         return BAD_USE
     except BrokenPipeError:

@@ -1,13 +1,9 @@
 """A sheet, the verdict and the listing that the proved program gave for it, and what a desk must know of them."""
-import desk_drawn
-import desk_limits
-import desk_network
-import desk_refusals
-import desk_verdict
-import sheet_bounds
-from desk_words import Units, counted, flow_words, link_words, listed, node_words, numbered
-from listings import Listing
-from sheet_format import LINK_KINDS
+from . import drawn, network, refusals, sheet_bounds, verdict
+from .limits import USUAL
+from .listings import Listing
+from .sheet_format import LINK_KINDS
+from .words import Units, counted, flow_words, link_words, listed, node_words, numbered
 
 # exit statuses
 CLEAN, REFUSED, BAD_USE, DOUBTFUL = 0, 1, 2, 3
@@ -19,18 +15,18 @@ def said_of(hydrants, one, several):
 
 
 class Answer:
-    def __init__(self, name, data, reply, limits=desk_limits.USUAL):
+    def __init__(self, name, data, reply, limits=USUAL):
         self.name, self.limits = name, limits
         # number and place of the verdict; the solve's own are the listing's
         self.verdict, self.place = reply.verdict, reply.place
         self.listing = Listing(reply.text)
-        self.solved = self.verdict != desk_verdict.REFUSED
+        self.solved = self.verdict != verdict.REFUSED
         found, _ = sheet_bounds.records(data)
         self.nodes = [fields for _, mark, fields in found if mark == b"ND"]
         self.links = [fields for _, mark, fields in found if mark == b"LK"]
         self.entries = [(mark, int(number)) for mark, number in
                         (entry.split(" ") for entry in self.listing.record)]
-        self.refusal = None if self.solved else desk_refusals.explain(
+        self.refusal = None if self.solved else refusals.explain(
             data, self.listing.number, self.listing.place)
         # refusals up to 5 may have no options to read
         self.units = None if 1 <= self.listing.number <= 5 else Units(found[0][2]["unit"])
@@ -38,18 +34,18 @@ class Answer:
         # the two pressures that demand gives way between, or None
         self.pd = next((fields for _, mark, fields in found if mark == b"PD"), None)
         self.hydrants = self.find_hydrants() if self.solved and self.pd else {}
-        self.low = desk_verdict.low_nodes(self) if self.solved else []
+        self.low = verdict.low_nodes(self) if self.solved else []
 
     def find_undetermined(self):
         """The verdict says whether there are any, save where it is about a repair."""
-        if self.verdict not in (desk_verdict.REPAIRED, desk_verdict.UNDETERMINED):
+        if self.verdict not in (verdict.REPAIRED, verdict.UNDETERMINED):
             return []
-        found = set(desk_network.undetermined(self.nodes, self.links, self.listing.statuses, self.listing.flows))
-        return sorted(found | ({self.place} if self.verdict == desk_verdict.UNDETERMINED else set()))
+        found = set(network.undetermined(self.nodes, self.links, self.listing.statuses, self.listing.flows))
+        return sorted(found | ({self.place} if self.verdict == verdict.UNDETERMINED else set()))
 
     def find_hydrants(self):
         pressures = [self.pressure(i) for i in range(len(self.nodes))]
-        return desk_drawn.hydrants(self.nodes, self.listing.demands, pressures, self.pd, self.limits.flow)
+        return drawn.hydrants(self.nodes, self.listing.demands, pressures, self.pd, self.limits.flow)
 
     def repaired(self, mark):
         """The links freed (VF) or the nodes grounded (GN), each once, in the order of the record."""
@@ -75,7 +71,7 @@ class Answer:
 
     @property
     def may_be_sold(self):
-        return self.verdict == desk_verdict.SOLD
+        return self.verdict == verdict.SOLD
 
     @property
     def exit_status(self):
@@ -100,7 +96,7 @@ class Answer:
 
     def doubts(self):
         found = self.repair_words() + self.undetermined_words() + self.unfit_words()
-        return found if self.verdict == desk_verdict.NOT_DRAWN and self.unfit else found + desk_verdict.words(self)
+        return found if self.verdict == verdict.NOT_DRAWN and self.unfit else found + verdict.words(self)
 
     def freed_words(self, number):
         link = self.links[number]
@@ -128,7 +124,7 @@ class Answer:
             return ""
         if not self.short:
             return "; every hydrant gets what it asks"
-        worst = desk_drawn.worst(self.short, lambda h: h.lack)
+        worst = drawn.worst(self.short, lambda h: h.lack)
         return "; %s, worst node %d, which lacks %s" % (
             said_of(self.short, "gets less than it asks", "get less than they ask"), worst.number,
             flow_words(self.units, worst.lack, worst.asked))
@@ -136,7 +132,7 @@ class Answer:
     def unfit_words(self):
         if not self.unfit:
             return []
-        worst = desk_drawn.worst(self.unfit, lambda h: abs(h.drawn - h.allowed))
+        worst = drawn.worst(self.unfit, lambda h: abs(h.drawn - h.allowed))
         return ["what %s does not fit the pressure there, worst node %d, which draws %s where the pressure "
                 "allows %s" % (said_of(self.unfit, "draws", "draw"), worst.number,
                                flow_words(self.units, worst.drawn), flow_words(self.units, worst.allowed))]

@@ -3,9 +3,9 @@ docs/SHEETS.md describes it; `./desk --sheet TEXTFILE -o FILE.sheet` turns it in
 import math
 import re
 
-import sheet_bounds
-from desk_words import METRES_PER_FOOT, PSI_PER_FOOT
-from sheet_format import LINK_KINDS, NODE_KINDS, PER_CFS, STATUSES, UNITS, Sheet
+from . import sheet_bounds
+from .sheet_format import LINK_KINDS, NODE_KINDS, PER_CFS, STATUSES, UNITS, Sheet
+from .words import METRES_PER_FOOT, PSI_PER_FOOT
 
 NUMBER = re.compile(r"[+-]?(\d+\.?\d*|\.\d+)([eE][+-]?\d+)?")
 

@@ -1,9 +1,9 @@
 """An answer for a person."""
-from desk_answer import record_words
-from desk_drawn import pressure_range
-from desk_network import JUNCTION, in_service
-from desk_words import fixed, flow_figures, flow_words, pressure_words, small
-from sheet_format import LINK_KINDS, NODE_KINDS, STATUSES
+from .answer import record_words
+from .drawn import pressure_range
+from .network import JUNCTION, in_service
+from .sheet_format import LINK_KINDS, NODE_KINDS, STATUSES
+from .words import fixed, flow_figures, flow_words, pressure_words, small
 
 
 def table(header, rows):

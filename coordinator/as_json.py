@@ -1,9 +1,9 @@
 """An answer for a program; docs/DESK.md says what each key holds."""
 import json
 
-from desk_answer import entry_words
-from desk_network import in_service
-from sheet_format import LINK_KINDS, NODE_KINDS, STATUSES, bits
+from .answer import entry_words
+from .network import in_service
+from .sheet_format import LINK_KINDS, NODE_KINDS, STATUSES, bits
 
 
 def numbers(**values):
