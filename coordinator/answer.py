@@ -15,7 +15,7 @@ def said_of(hydrants, one, several):
 
 
 class Answer:
-    def __init__(self, name, data, reply, limits=USUAL):
+    def __init__(self, name, data, reply, limits=USUAL, whole=True):
         self.name, self.limits = name, limits
         # number and place of the verdict; the solve's own are the listing's
         self.verdict, self.place = reply.verdict, reply.place
@@ -27,7 +27,7 @@ class Answer:
         self.entries = [(mark, int(number)) for mark, number in
                         (entry.split(" ") for entry in self.listing.record)]
         self.refusal = None if self.solved else refusals.explain(
-            data, self.listing.number, self.listing.place)
+            data, self.listing.number, self.listing.place, whole)
         # refusals up to 5 may have no options to read
         self.units = None if 1 <= self.listing.number <= 5 else Units(found[0][2]["unit"])
         self.undetermined = self.find_undetermined()

@@ -1,11 +1,11 @@
-"""Asks the proved program `verdict`, and has it proved and built where it is not there yet."""
-import os
+"""Asks the proved program `verdict`. A sheet is its bytes, or the path of a file that is too long to be held."""
+import functools
 import struct
 import subprocess
-import sys
 from collections import namedtuple
 
-from . import listings, programs
+from . import building, listings, programs
+from .building import NotToBeHad
 
 NAME = "verdict"
 # longer sheets are asked of this one, which reads any length; all it can do is to refuse them
@@ -15,26 +15,26 @@ ANY_LENGTH, LONGEST = "listing", 65536
 Reply = namedtuple("Reply", "verdict place text")
 
 
-class NotToBeHad(Exception):
-    """The proved program can be neither found nor built, or does not run."""
+@functools.lru_cache(maxsize=None)
+def have(name):
+    """Once a run."""
+    building.have(name)
 
 
-def build(name):
-    print("desk: proving and building the program `%s`; the first time this takes some minutes" % name,
-          file=sys.stderr, flush=True)
-    done = subprocess.run(["rt", "check", name], cwd=programs.ROOT, stdout=subprocess.PIPE,
-                          stderr=subprocess.STDOUT, universal_newlines=True, check=False)
-    if done.returncode or not os.path.exists(programs.path(name)):
-        raise NotToBeHad("rt check %s did not build the program:\n%s" % (name, done.stdout.strip()))
-
-
-def output(name, data):
+def output(name, sheet):
+    """What a program prints for bytes, or for the file at a path."""
     try:
-        if not os.path.exists(programs.path(name)):
-            build(name)
-        return programs.run(name, data).decode("ascii", "replace")
+        have(name)
+        if isinstance(sheet, bytes):
+            return programs.run(name, sheet).decode("ascii", "replace")
+        with open(sheet, "rb") as file:
+            return programs.run_on_file(name, file).decode("ascii", "replace")
     except (OSError, subprocess.CalledProcessError) as error:
         raise NotToBeHad("the program `%s` does not run: %s" % (name, error)) from error
+
+
+def is_long(sheet):
+    return not isinstance(sheet, bytes) or len(sheet) > LONGEST
 
 
 def reply(verdict, place, text):
@@ -68,8 +68,8 @@ def question(data, limits):
 def ask(sheets, limits):
     """A reply for each sheet."""
     try:
-        if any(len(data) > LONGEST for data in sheets):
-            return [of_listing(output(ANY_LENGTH, data)) for data in sheets]
+        if any(map(is_long, sheets)):
+            return [of_listing(output(ANY_LENGTH, sheet)) for sheet in sheets]
         found = replies(output(NAME, b"".join(question(data, limits) for data in sheets)))
         if len(found) != len(sheets):
             raise ValueError("too few verdicts")

@@ -5,6 +5,7 @@ import math
 from collections import namedtuple
 
 from .sheet_text import FLOW, NUMBER, PRESSURE, Mistake, figure
+from .words import quoted
 
 # lowest pressure and tolerance of heads in feet, tolerance of flows in cubic feet per second
 Limits = namedtuple("Limits", "lowest head flow")
@@ -20,7 +21,7 @@ def measured(name, text, units):
     except Mistake as mistake:
         raise argparse.ArgumentTypeError(str(mistake)) from mistake
     if not math.isfinite(x):
-        raise argparse.ArgumentTypeError("%s is too great" % text)
+        raise argparse.ArgumentTypeError("%s is too great" % quoted(text))
     return x
 
 

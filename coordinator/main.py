@@ -1,11 +1,14 @@
 """The desk's command; see --help."""
 import argparse
 import os
-import sys
+import traceback
 
-from . import as_json, asking, limits, pages, pictures, sheet_text, unsettled
+from . import as_json, asking, files, limits, pages, pictures, sheet_text, streams, unsettled
 from .answer import BAD_USE, CLEAN, DOUBTFUL, REFUSED, Answer
+from .files import BadUse
 from .sheet_format import shown
+from .streams import OutputLost, complain, note, put
+from .words import counted, quoted
 
 DESCRIPTION = ("Solves network sheets by the proved program and tells a person or a program what came out and "
                "whether it may be sold.")
@@ -17,16 +20,20 @@ EPILOG = """exit status:
   of several sheets the gravest counts: 2, then 3, then 1
 
 docs/DESK.md says what the output means, docs/SHEETS.md how to write a sheet by hand."""
+# of a text's mistakes so many are told one by one
+MOST_MISTAKES = 40
 GRAVEST_FIRST = (BAD_USE, DOUBTFUL, REFUSED, CLEAN)
 
 
-class BadUse(Exception):
-    """Something is wrong with what was asked."""
+class Parser(argparse.ArgumentParser):
+    def error(self, message):
+        # it quotes the arguments, which may hold anything
+        super().error(quoted(message, 300))
 
 
 def parser():
-    p = argparse.ArgumentParser(prog="desk", description=DESCRIPTION, epilog=EPILOG, allow_abbrev=False,
-                                formatter_class=argparse.RawDescriptionHelpFormatter)
+    p = Parser(prog="desk", description=DESCRIPTION, epilog=EPILOG, allow_abbrev=False,
+               formatter_class=argparse.RawDescriptionHelpFormatter)
     p.add_argument("files", nargs="*", metavar="SHEET", help="a network sheet")
     p.add_argument("--json", action="store_true", help="print one JSON list, an entry a sheet")
     p.add_argument("--plot", metavar="FILE.svg", help="also draw the pressures; with several sheets each has "
@@ -54,8 +61,6 @@ def check(p, options):
             p.error("--sheet needs -o FILE.sheet")
         if options.files or options.explain or asks:
             p.error("--sheet goes with -o alone")
-        if os.path.abspath(options.out) == os.path.abspath(options.sheet):
-            p.error("-o would write over the text")
     elif options.out is not None:
         p.error("-o goes with --sheet")
     elif not options.files:
@@ -67,35 +72,12 @@ def check(p, options):
         p.error("--plot writes a file whose name ends in .svg")
 
 
-def complain(message):
-    print("desk: " + message, file=sys.stderr)
-
-
-def read(path):
-    try:
-        with open(path, "rb") as file:
-            data = file.read()
-    except OSError as error:
-        raise BadUse("%s cannot be read: %s" % (path, error.strerror)) from error
-    if not data:
-        raise BadUse("%s is empty" % path)
-    return data
-
-
-def write(path, data):
-    try:
-        with open(path, "wb") as file:
-            file.write(data)
-    except OSError as error:
-        raise BadUse("%s cannot be written: %s" % (path, error.strerror)) from error
-
-
-def each(paths, do):
+def each(names, do):
     """Does something with every file that can be read, numbered from 1; the exit status of each."""
     statuses = []
-    for number, path in enumerate(paths, 1):
+    for number, name in enumerate(names, 1):
         try:
-            statuses.append(do(number, path, read(path)))
+            statuses.append(do(number, files.read(name)))
         except BadUse as error:
             complain(str(error))
             statuses.append(BAD_USE)
@@ -110,55 +92,72 @@ def picture_name(plot, number, path, several):
     return "%s-%d-%s%s" % (stem, number, name, ending)
 
 
-def answer_to(path, data, asked, ask):
-    (reply,) = ask([data], asked)
-    answer = Answer(path, data, reply, asked)
+def answer_to(given, asked, ask):
+    (reply,) = ask([given.path or given.data], asked)
+    answer = Answer(given.name, given.data, reply, asked, given.path is None)
     if answer.listing.number == unsettled.USED_UP:
-        answer.refusal.why += unsettled.words(answer, ask(unsettled.coarser(data), asked))
+        answer.refusal.why += unsettled.words(answer, ask(unsettled.coarser(given.data), asked))
     return answer
+
+
+def draw(options, number, answer):
+    """The picture's status: one that cannot be written takes nothing from the answer."""
+    if not options.plot:
+        return CLEAN
+    name = picture_name(options.plot, number, answer.name, len(options.files) > 1)
+    try:
+        files.write(name, pictures.picture(answer).encode("utf-8", "replace"), options.files)
+        return CLEAN
+    except BadUse as error:
+        complain(str(error))
+        return BAD_USE
 
 
 def answer_all(options, ask):
     """Solves each sheet and prints it, or all of them as JSON at the end."""
     several, answers = len(options.files) > 1, []
 
-    def one(number, path, data):
-        answer = answer_to(path, data, limits_of(options), ask)
+    def one(number, given):
+        answer = answer_to(given, limits_of(options), ask)
         answers.append(answer)
-        if options.plot:
-            write(picture_name(options.plot, number, path, several), pictures.picture(answer).encode())
         if not options.json:
-            print(("\n" if answers[1:] else "") + pages.page(answer, several), end="", flush=True)
-        return answer.exit_status
+            put(("\n" if answers[1:] else "") + pages.page(answer, several))
+        return gravest([answer.exit_status, draw(options, number, answer)])
 
     statuses = each(options.files, one)
     if options.json and answers:
-        print(as_json.document(answers), end="")
+        put(as_json.document(answers))
     return statuses
 
 
-def explain_all(paths):
-    def one(_, path, data):
-        if len(paths) > 1:
-            print(path)
-        for line in shown(data):
-            print(line)
+def explain_all(names):
+    def one(_, given):
+        if given.path:
+            raise BadUse("%s has more than %d bytes, and the longest sheet has 9,199" % (
+                files.shown(given.name), files.MOST))
+        put("".join(line + "\n" for line in
+                    ([files.shown(given.name)] if names[1:] else []) + list(shown(given.data))))
         return CLEAN
-    return each(paths, one)
+    return each(names, one)
 
 
-def make_sheet(text_path, out):
+def make_sheet(name, out):
     try:
-        data, scheme = sheet_text.read_scheme(read(text_path))
+        data, scheme = sheet_text.read_scheme(files.read(name).data)
     except sheet_text.Mistakes as mistakes:
-        for line, words in mistakes.found:
-            print("%s:%d: %s" % (text_path, line, words), file=sys.stderr)
+        tell_mistakes(name, mistakes)
         return [BAD_USE]
-    write(out, data)
-    print("wrote %s, %d bytes" % (out, len(data)))
-    for line in scheme:
-        print("  " + line)
+    files.write(out, data, [name])
+    put("wrote %s, %d bytes\n" % (files.shown(out), len(data)) + "".join("  %s\n" % line for line in scheme))
     return [CLEAN]
+
+
+def tell_mistakes(name, mistakes):
+    for line, words in mistakes.found[:MOST_MISTAKES]:
+        note("%s:%d: %s" % (files.shown(name), line, words))
+    more = len(mistakes.found) - MOST_MISTAKES
+    if more > 0:
+        note("%s: and %s" % (files.shown(name), counted(more, "more mistake")))
 
 
 def gravest(statuses):
@@ -182,7 +181,33 @@ def main(args, ask=asking.ask):
     except (BadUse, asking.NotToBeHad) as error:
         complain(str(error))
         return BAD_USE
-    except BrokenPipeError:
-        # whoever read the output has seen enough; leave no second message behind
-        os.dup2(os.open(os.devnull, os.O_WRONLY), sys.stdout.fileno())
-        return BAD_USE
+
+
+def main_flushed(args):
+    """The same with help and bad arguments, by which argparse ends the program."""
+    try:
+        return main(args)
+    except SystemExit as end:
+        put("")
+        return end.code
+
+
+def told(error):
+    """What went wrong in the desk itself, on one line."""
+    place = traceback.extract_tb(error.__traceback__)[-1]
+    return "a fault in the desk, to be reported: %s at %s:%d: %s" % (
+        type(error).__name__, os.path.basename(place.filename), place.lineno, quoted(str(error), 200))
+
+
+def command(args):
+    """The exit status, whatever happens."""
+    streams.prepare()
+    try:
+        return main_flushed(args)
+    except KeyboardInterrupt:
+        complain("interrupted")
+    except OutputLost as error:
+        complain(str(error))
+    except Exception as error:  # pylint: disable=broad-except
+        complain(told(error))
+    return BAD_USE

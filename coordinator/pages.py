@@ -1,6 +1,7 @@
 """An answer for a person."""
 from .answer import record_words
 from .drawn import pressure_range
+from .files import shown
 from .network import JUNCTION, in_service
 from .sheet_format import LINK_KINDS, NODE_KINDS, STATUSES
 from .words import fixed, flow_figures, flow_words, pressure_words, small
@@ -127,5 +128,5 @@ def solved(answer):
 
 def page(answer, named):
     """Everything about one sheet; its name before the first line where there are several."""
-    first = ("%s: " % answer.name if named else "") + answer.first_line()
+    first = ("%s: " % shown(answer.name) if named else "") + answer.first_line()
     return "\n".join([first] + (solved if answer.solved else refused)(answer)) + "\n"

@@ -1,5 +1,5 @@
-"""Runs the proved programs that `rt` built, as `rt` itself runs them: by the kit's loader and, on a
-processor that is not x86-64, under its emulator."""
+"""Runs the proved programs that `rt` built, as `rt` itself runs them: by the kit's loader and, on a processor that is
+not x86-64, under its emulator."""
 import os
 import platform
 import shutil
@@ -12,12 +12,40 @@ def path(name):
     return os.path.join(ROOT, "target", "bin", name)
 
 
+def memory():
+    """Where it is kept which kit built the programs, so that they run without its command."""
+    return os.path.join(ROOT, "target", "kit")
+
+
+def remembered():
+    try:
+        with open(memory(), encoding="utf-8") as file:
+            return file.read().rstrip("\n")
+    except (OSError, ValueError):
+        return ""
+
+
+def remember_kit():
+    """Where `rt` is on the path and the folder can be written."""
+    if shutil.which("rt") is None or remembered() == kit():
+        return
+    try:
+        with open(memory(), "w", encoding="utf-8") as file:
+            file.write(kit() + "\n")
+    except OSError:
+        pass
+
+
 def kit():
-    """The kit's folder, as `rt` finds it."""
-    found = shutil.which("rt")
-    if found is None:
-        raise FileNotFoundError("rt, the kit's command, is not on the path")
-    return os.environ.get("RATTLE_HOME") or os.path.dirname(os.path.dirname(os.path.realpath(found)))
+    """The kit's folder, as `rt` finds it, or as it was when a program was built."""
+    home, found = os.environ.get("RATTLE_HOME"), shutil.which("rt")
+    if home:
+        return home
+    if found is not None:
+        return os.path.dirname(os.path.dirname(os.path.realpath(found)))
+    if os.path.isdir(remembered()):
+        return remembered()
+    raise FileNotFoundError("rt, the Rattle kit's command, is not on the path")
 
 
 def own():
@@ -31,7 +59,13 @@ def toolchain():
 
 def by_loader(program):
     """The words that start an x86-64 program here."""
-    tools = toolchain()
+    try:
+        tools = toolchain()
+    except FileNotFoundError:
+        if platform.machine() == "x86_64":
+            # the machine's own loader will do
+            return [program]
+        raise
     emulator = os.path.join(tools, "bin", "qemu-x86_64")
     loader = [os.path.join(tools, "lib", "ld-linux-x86-64.so.2"), "--library-path", os.path.join(tools, "lib")]
     return ([emulator] if os.path.exists(emulator) else []) + loader + [program]
@@ -44,4 +78,10 @@ def command(name, *args):
 def run(name, data, *args):
     """What a program writes for these bytes on its standard input."""
     done = subprocess.run(command(name, *args), input=data, stdout=subprocess.PIPE, check=True)
+    return done.stdout
+
+
+def run_on_file(name, file):
+    """The same for a file that is not held."""
+    done = subprocess.run(command(name), stdin=file, stdout=subprocess.PIPE, check=True)
     return done.stdout

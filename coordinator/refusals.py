@@ -187,7 +187,18 @@ EXPLAIN = {1: unreadable, 2: wrong_count, 3: out_of_bounds, 4: wrong_ends, 5: to
            6: singular, 7: ran_away, 8: used_up}
 
 
-def explain(data, number, place):
+def of_a_long_file(number, place):
+    """Only 1 and 2 can be told of a file that is longer than any sheet, and not all of it is held."""
+    why = {1: "the file is longer than any sheet, and no record can be read at byte %d" % place,
+           2: "the file is longer than any sheet and holds too many %s" % ("nodes", "links")[place == 1]}
+    return Refusal(number, place, why.get(number, "the file is longer than any sheet"),
+                   "name a sheet: the longest has 9,199 bytes")
+
+
+def explain(data, number, place, whole=True):
+    """`data` may be a long file's beginning alone; then it is not `whole`."""
+    if not whole:
+        return of_a_long_file(number, place)
     try:
         return EXPLAIN[number](data, place)
     except (IndexError, KeyError, ValueError):

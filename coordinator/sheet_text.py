@@ -5,9 +5,9 @@ import re
 
 from . import sheet_bounds
 from .sheet_format import LINK_KINDS, NODE_KINDS, PER_CFS, STATUSES, UNITS, Sheet
-from .words import METRES_PER_FOOT, PSI_PER_FOOT
+from .words import METRES_PER_FOOT, PSI_PER_FOOT, quoted
 
-NUMBER = re.compile(r"[+-]?(\d+\.?\d*|\.\d+)([eE][+-]?\d+)?")
+NUMBER = re.compile(r"[+-]?(\d+\.?\d*|\.\d+)([eE][+-]?\d+)?", re.ASCII)
 
 # what a figure may be given in, and how many of it make the sheet's own unit
 FLOW = {name.lower(): per for name, per in zip(UNITS, PER_CFS)}
@@ -55,7 +55,7 @@ def one_of(names, word, what):
     for name in names:
         if name.lower() == word.lower():
             return name
-    raise Mistake("%s is no %s; there are %s" % (word, what, ", ".join(names)))
+    raise Mistake("%s is no %s; there are %s" % (quoted(word), what, ", ".join(names)))
 
 
 def take(words, what):
@@ -68,12 +68,12 @@ def figure(name, words, units):
     """The number after a figure's name, turned into the sheet's unit by the unit after it."""
     text = take(words, "the figure of " + name)
     if not NUMBER.fullmatch(text):
-        raise Mistake("%s is no number, but the figure of %s is expected" % (text, name))
+        raise Mistake("%s is no number, but the figure of %s is expected" % (quoted(text), name))
     if units is BARE:
         return float(text)
     unit = take(words, "the unit of " + name)
     if unit.lower() not in units:
-        raise Mistake("%s is no unit for %s; there are %s" % (unit, name, ", ".join(units)))
+        raise Mistake("%s is no unit for %s; there are %s" % (quoted(unit), name, ", ".join(units)))
     return float(text) / units[unit.lower()]
 
 
@@ -93,7 +93,7 @@ def fields_of(kind, words, **other_units):
         elif name == "flow-unit" and kind == "options":
             found[name] = one_of(UNITS, take(words, "a flow unit"), "flow unit")
         else:
-            raise Mistake("%s has no %s; it may have %s" % (kind, name, ", ".join(allowed(kind))))
+            raise Mistake("%s has no %s; it may have %s" % (kind, quoted(name), ", ".join(allowed(kind))))
     missing = [name for name in NEEDED.get(kind, ()) if name not in found]
     if missing:
         raise Mistake("%s needs %s" % (kind, " and ".join(missing)))
@@ -133,7 +133,10 @@ def resistance(found):
         raise Mistake("a pipe needs a resistance, or a length, a diameter and a roughness")
     if not (found["diameter"] > 0 and found["roughness"] > 0):
         raise Mistake("diameter and roughness must be above 0")
-    return 4.727 * found["roughness"] ** -1.852 * found["diameter"] ** -4.871 * found["length"]
+    try:
+        return 4.727 * found["roughness"] ** -1.852 * found["diameter"] ** -4.871 * found["length"]
+    except OverflowError as error:
+        raise Mistake("so small a diameter or roughness gives no resistance that can be told") from error
 
 
 def link_fields(kind, found):
@@ -182,7 +185,7 @@ class Scheme:
     def node(self, kind, line, words):
         name = take(words, "the node's name")
         if name in self.numbers:
-            raise Mistake("a node is called %s already" % name)
+            raise Mistake("a node is called %s already" % quoted(name))
         # the name counts even if its fields are wrong, so that one slip is told once
         self.numbers[name] = len(self.numbers)
         self.lines[b"ND"].append(line)
@@ -197,7 +200,7 @@ class Scheme:
     def record(self, line, words):
         kind = KINDS.get(words[0].lower())
         if kind is None:
-            raise Mistake("%s is no kind of record; there are %s" % (words[0], ", ".join(FIGURES)))
+            raise Mistake("%s is no kind of record; there are %s" % (quoted(words[0]), ", ".join(FIGURES)))
         rest = words[1:]
         if kind == "options":
             self.options(line, rest)
@@ -212,7 +215,7 @@ class Scheme:
         """Puts a link in, now that all names are known."""
         for name in (start, end):
             if name not in self.numbers:
-                raise Mistake("no node is called " + name)
+                raise Mistake("no node is called " + quoted(name))
         self.lines[b"LK"].append(line)
         self.names.append((kind, start, end))
         self.sheet.link(kind, self.numbers[start], self.numbers[end], **fields)
@@ -238,9 +241,9 @@ class Scheme:
     def shown(self):
         """Which number each name got."""
         for (name, number), node in zip(self.numbers.items(), self.sheet.nodes):
-            yield "node %d  %s %s" % (number, NODE_KINDS[node["kind"]], name)
+            yield "node %d  %s %s" % (number, NODE_KINDS[node["kind"]], quoted(name))
         for number, (kind, start, end) in enumerate(self.names):
-            yield "link %d  %s %s -> %s" % (number, kind, start, end)
+            yield "link %d  %s %s -> %s" % (number, kind, quoted(start), quoted(end))
 
 
 def attempt(mistakes, line, do, *args):
@@ -260,7 +263,8 @@ def decoded(data):
 def read_scheme(data):
     """The sheet's bytes, and lines that say which number each name got; or Mistakes, all of them."""
     scheme, mistakes = Scheme(), []
-    for line, text in enumerate(decoded(data).splitlines(), 1):
+    # as editors count them: not splitlines, which ends a line at a form feed and at other signs too
+    for line, text in enumerate(decoded(data).split("\n"), 1):
         words = text.split("#")[0].split()
         if words:
             attempt(mistakes, line, scheme.record, line, words)

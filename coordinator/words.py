@@ -3,6 +3,8 @@ from .sheet_format import LINK_KINDS, NODE_KINDS, PER_CFS, UNITS, named
 
 # the original's factors: psi and metres of water in a foot of it
 PSI_PER_FOOT, METRES_PER_FOOT = 0.4333, 0.3048
+# how much of a file a message quotes
+QUOTED = 60
 METRIC = UNITS[UNITS.index("LPS"):]
 
 
@@ -14,6 +16,17 @@ class Units:
         self.metric = self.flow in METRIC
         self.pressure = "m" if self.metric else "psi"
         self.per_foot = METRES_PER_FOOT if self.metric else PSI_PER_FOOT
+
+
+def escaped(text):
+    """Words from outside on one line of a terminal: what cannot be printed as escapes."""
+    return "".join(c if c.isprintable() else c.encode("unicode_escape").decode("ascii") for c in text)
+
+
+def quoted(text, most=QUOTED):
+    """So many characters of such words."""
+    shown = escaped(text[:most + 1])
+    return shown if len(shown) <= most else shown[:most - 3] + "..."
 
 
 def fixed(x, digits):

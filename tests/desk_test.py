@@ -19,8 +19,7 @@ sys.path[:0] = [TOP, os.path.join(TOP, "tools")]
 
 import sheets
 import verdicts
-from coordinator import (as_json, asking, listings, network, pages, pictures, programs, refusals, sheet_bounds, sheet_text,
-                         unsettled)
+from coordinator import (as_json, asking, listings, network, pages, pictures, refusals, sheet_bounds, sheet_text, unsettled)
 from coordinator.answer import Answer, record_words
 from coordinator.asking import Reply
 from coordinator.drawn import SERVED, allowed
@@ -1090,18 +1089,6 @@ class Command(unittest.TestCase):
         self.assertEqual((status, out), (2, ""))
         self.assertEqual(err, "%s:1: no node is called a\n" % text)
         self.assertFalse(os.path.exists(self.path("bad.sheet")))
-
-    def test_without_the_kit_there_is_a_message(self):
-        path, which = programs.path, os.environ["PATH"]
-        try:
-            programs.path = lambda name: self.path("no-" + name)
-            os.environ["PATH"] = self.folder.name
-            with contextlib.redirect_stderr(io.StringIO()) as err:
-                with self.assertRaises(asking.NotToBeHad):
-                    asking.ask([b""], USUAL)
-            self.assertIn("takes some minutes", err.getvalue())
-        finally:
-            programs.path, os.environ["PATH"] = path, which
 
 
 if __name__ == "__main__":

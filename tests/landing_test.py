@@ -12,7 +12,7 @@ from unittest import mock
 TOP = os.path.dirname(os.path.dirname(os.path.abspath(__file__)))
 sys.path.insert(0, os.path.join(TOP, "tools"))
 
-import crates
+from coordinator import crates
 import landing
 
 SPECS = """-- Numbers.

@@ -9,7 +9,8 @@ import os
 import pathlib
 import sys
 
-import crates
+import product  # noqa: F401
+from coordinator import crates
 
 ROOT = pathlib.Path(__file__).resolve().parent.parent
 

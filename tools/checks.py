@@ -4,9 +4,8 @@ import os
 import platform
 import subprocess
 
-import crates
 import product  # noqa: F401
-from coordinator import programs
+from coordinator import crates, programs
 
 # sorted by the command that rt sorts with: two equal files stand in the order of the locale
 SUMS = "find src specs proofs stdin stdout args data -type f -exec sha256sum {} + 2>/dev/null | sort"

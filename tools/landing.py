@@ -10,7 +10,8 @@ import re
 import subprocess
 import sys
 
-import crates
+import product  # noqa: F401
+from coordinator import crates
 
 ROOT = os.path.dirname(os.path.dirname(os.path.abspath(__file__)))
 PARTS = {"specs": "specs", "proofs": "proofs", "src": "code", "must-fail": "edits"}

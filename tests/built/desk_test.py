@@ -108,6 +108,20 @@ class Made(unittest.TestCase):
             self.assertEqual((status, verdict), (1, {"number": 1, "place": 1}))
 
 
+    def test_a_file_of_100_mb_is_refused_and_not_held(self):
+        with tempfile.NamedTemporaryFile(suffix=".sheet") as file:
+            file.truncate(100 * 1000 * 1000)
+            asked = subprocess.Popen(["./desk", file.name], cwd=TOP, stdout=subprocess.PIPE, universal_newlines=True)
+            said = asked.stdout.read()
+            asked.stdout.close()
+            # of the desk or of the program that it asks, whichever held more
+            _, ended, used = os.wait4(asked.pid, 0)
+            asked.returncode = os.WEXITSTATUS(ended)
+        self.assertEqual((said.splitlines()[0], asked.returncode), (
+            "refused, number 1 at place 0: the file is longer than any sheet, and no record can be read at byte 0", 1))
+        self.assertLess(used.ru_maxrss, 80000)
+
+
 class Desk(unittest.TestCase):
     def test_every_example_is_expected(self):
         top = os.path.join(TOP, "examples")
