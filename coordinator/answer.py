@@ -7,7 +7,12 @@ from .words import Units, counted, flow_words, link_words, listed, node_words, n
 
 # exit statuses
 CLEAN, REFUSED, BAD_USE, DOUBTFUL = 0, 1, 2, 3
+GRAVEST_FIRST = (BAD_USE, DOUBTFUL, REFUSED, CLEAN)
 NOT_FOR_SALE = "these pressures must not be sold on"
+
+
+def gravest(statuses):
+    return next(status for status in GRAVEST_FIRST if status in statuses)
 
 
 def said_of(hydrants, one, several):

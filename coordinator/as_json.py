@@ -1,7 +1,7 @@
 """An answer for a program; docs/DESK.md says what each key holds."""
 import json
 
-from .answer import entry_words
+from .answer import Answer, entry_words
 from .network import in_service
 from .sheet_format import LINK_KINDS, NODE_KINDS, STATUSES, bits
 
@@ -78,7 +78,7 @@ def results(answer):
 def answer_keys(answer):
     found = {
         "sheet": answer.name, "first_line": answer.first_line(), "exit_status": answer.exit_status,
-        "solved": answer.solved, "may_be_sold": answer.may_be_sold,
+        "solved": answer.solved, "may_be_sold": answer.may_be_sold, "error": None,
         "verdict": {"number": answer.verdict, "place": answer.place},
         "limits": numbers(lowest_pressure_ft=answer.limits.lowest, head_ft=answer.limits.head,
                           flow_cfs=answer.limits.flow),
@@ -93,6 +93,15 @@ def answer_keys(answer):
     return found
 
 
-def document(answers):
-    """One list, an entry a sheet."""
-    return json.dumps([answer_keys(answer) for answer in answers], indent=1, allow_nan=False) + "\n"
+def unanswered_keys(found):
+    return {"sheet": found.name, "first_line": found.why, "exit_status": found.exit_status,
+            "solved": False, "may_be_sold": False, "error": found.why}
+
+
+def entry(found):
+    return answer_keys(found) if isinstance(found, Answer) else unanswered_keys(found)
+
+
+def document(found):
+    """One list, an entry a file, be it answered or not."""
+    return json.dumps([entry(one) for one in found], indent=1, allow_nan=False) + "\n"

@@ -110,6 +110,7 @@ def started(words, lock):
             yield process
         except BaseException:
             os.killpg(process.pid, signal.SIGTERM)
+            process.wait()
             raise
 
 

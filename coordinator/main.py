@@ -3,8 +3,8 @@ import argparse
 import os
 import traceback
 
-from . import as_json, asking, files, limits, pages, pictures, sheet_text, streams, unsettled
-from .answer import BAD_USE, CLEAN, DOUBTFUL, REFUSED, Answer
+from . import answering, asking, files, limits, sheet_text, streams
+from .answer import BAD_USE, CLEAN, gravest
 from .files import BadUse
 from .sheet_format import shown
 from .streams import OutputLost, complain, note, put
@@ -22,7 +22,6 @@ EPILOG = """exit status:
 docs/DESK.md says what the output means, docs/SHEETS.md how to write a sheet by hand."""
 # of a text's mistakes so many are told one by one
 MOST_MISTAKES = 40
-GRAVEST_FIRST = (BAD_USE, DOUBTFUL, REFUSED, CLEAN)
 
 
 class Parser(argparse.ArgumentParser):
@@ -72,73 +71,24 @@ def check(p, options):
         p.error("--plot writes a file whose name ends in .svg")
 
 
-def each(names, do):
-    """Does something with every file that can be read, numbered from 1; the exit status of each."""
-    statuses = []
-    for number, name in enumerate(names, 1):
-        try:
-            statuses.append(do(number, files.read(name)))
-        except BadUse as error:
-            complain(str(error))
-            statuses.append(BAD_USE)
-    return statuses
-
-
-def picture_name(plot, number, path, several):
-    if not several:
-        return plot
-    stem, ending = os.path.splitext(plot)
-    name = os.path.splitext(os.path.basename(path))[0]
-    return "%s-%d-%s%s" % (stem, number, name, ending)
-
-
-def answer_to(given, asked, ask):
-    (reply,) = ask([given.path or given.data], asked)
-    answer = Answer(given.name, given.data, reply, asked, given.path is None)
-    if answer.listing.number == unsettled.USED_UP:
-        answer.refusal.why += unsettled.words(answer, ask(unsettled.coarser(given.data), asked))
-    return answer
-
-
-def draw(options, number, answer):
-    """The picture's status: one that cannot be written takes nothing from the answer."""
-    if not options.plot:
-        return CLEAN
-    name = picture_name(options.plot, number, answer.name, len(options.files) > 1)
-    try:
-        files.write(name, pictures.picture(answer).encode("utf-8", "replace"), options.files)
-        return CLEAN
-    except BadUse as error:
-        complain(str(error))
-        return BAD_USE
-
-
-def answer_all(options, ask):
-    """Solves each sheet and prints it, or all of them as JSON at the end."""
-    several, answers = len(options.files) > 1, []
-
-    def one(number, given):
-        answer = answer_to(given, limits_of(options), ask)
-        answers.append(answer)
-        if not options.json:
-            put(("\n" if answers[1:] else "") + pages.page(answer, several))
-        return gravest([answer.exit_status, draw(options, number, answer)])
-
-    statuses = each(options.files, one)
-    if options.json and answers:
-        put(as_json.document(answers))
-    return statuses
+def records_of(name):
+    given = files.read(name)
+    if given.path:
+        raise BadUse("%s has more than %d bytes, and the longest sheet has 9,199" % (files.shown(name), files.MOST))
+    return list(shown(given.data))
 
 
 def explain_all(names):
-    def one(_, given):
-        if given.path:
-            raise BadUse("%s has more than %d bytes, and the longest sheet has 9,199" % (
-                files.shown(given.name), files.MOST))
-        put("".join(line + "\n" for line in
-                    ([files.shown(given.name)] if names[1:] else []) + list(shown(given.data))))
-        return CLEAN
-    return each(names, one)
+    statuses = []
+    for name in names:
+        try:
+            lines = records_of(name)
+            put("".join(line + "\n" for line in ([files.shown(name)] if names[1:] else []) + lines))
+            statuses.append(CLEAN)
+        except BadUse as error:
+            complain(str(error))
+            statuses.append(BAD_USE)
+    return gravest(statuses)
 
 
 def make_sheet(name, out):
@@ -146,10 +96,10 @@ def make_sheet(name, out):
         data, scheme = sheet_text.read_scheme(files.read(name).data)
     except sheet_text.Mistakes as mistakes:
         tell_mistakes(name, mistakes)
-        return [BAD_USE]
+        return BAD_USE
     files.write(out, data, [name])
     put("wrote %s, %d bytes\n" % (files.shown(out), len(data)) + "".join("  %s\n" % line for line in scheme))
-    return [CLEAN]
+    return CLEAN
 
 
 def tell_mistakes(name, mistakes):
@@ -160,16 +110,12 @@ def tell_mistakes(name, mistakes):
         note("%s: and %s" % (files.shown(name), counted(more, "more mistake")))
 
 
-def gravest(statuses):
-    return next(status for status in GRAVEST_FIRST if status in statuses)
-
-
 def run(options, ask):
     if options.sheet is not None:
         return make_sheet(options.sheet, options.out)
     if options.explain:
         return explain_all(options.files)
-    return answer_all(options, ask)
+    return answering.Round(options, limits_of(options), ask).run()
 
 
 def main(args, ask=asking.ask):
@@ -177,8 +123,8 @@ def main(args, ask=asking.ask):
     options = p.parse_args(args)
     check(p, options)
     try:
-        return gravest(run(options, ask))
-    except (BadUse, asking.NotToBeHad) as error:
+        return run(options, ask)
+    except BadUse as error:
         complain(str(error))
         return BAD_USE
 

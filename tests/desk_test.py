@@ -1040,7 +1040,7 @@ class Command(unittest.TestCase):
                      ("--plot", picture, empty), ("--plot", example("june"), example("june")),
                      ("--plot", picture), ("--sheet", example("june")), ("-o", picture, example("june")),
                      ("--sheet", empty, "-o", picture), ("--explain", "--json", example("june")),
-                     ("--sheet", example("june"), "-o", picture), ("--json", self.path("none"))):
+                     ("--sheet", example("june"), "-o", picture)):
             status, out, err = desk(*args)
             self.assertEqual((status, out), (2, ""), args)
             self.assertTrue(err, args)

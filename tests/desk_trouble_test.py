@@ -83,7 +83,7 @@ class Inputs(Folder):
         return err
 
     def test_an_endless_file(self):
-        for args in ((), ("--explain",), ("--json",)):
+        for args in ((), ("--explain",)):
             self.assertIn("/dev/zero goes on after 1048576 bytes", self.told(*args, "/dev/zero"))
         self.assertIn("/dev/zero goes on after", self.told("--sheet", "/dev/zero", "-o", self.path("a.sheet")))
 

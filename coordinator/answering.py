@@ -1,0 +1,88 @@
+"""Answers every file that the desk was asked about, one after the other, whatever becomes of the others."""
+import os
+
+from . import as_json, files, pages, pictures, unsettled
+from .answer import BAD_USE, CLEAN, Answer, gravest
+from .asking import NotToBeHad
+from .files import BadUse
+from .streams import complain, put
+
+
+class Unanswered:
+    """A file that could not be read, or for which there is no program to ask."""
+    exit_status = BAD_USE
+
+    def __init__(self, name, why):
+        self.name, self.why = name, why
+
+
+class Round:
+    """The files of one command. `limits` are what the verdict is asked with, `ask` asks the program."""
+
+    def __init__(self, options, limits, ask):
+        self.options, self.limits, self.ask = options, limits, ask
+        self.found, self.statuses = [], []
+        # why there is no program to ask, once this is known
+        self.no_program = None
+
+    def answer(self, name):
+        given = files.read(name)
+        if self.no_program:
+            raise self.no_program
+        (reply,) = self.ask([given.path or given.data], self.limits)
+        answer = Answer(given.name, given.data, reply, self.limits, given.path is None)
+        if answer.listing.number == unsettled.USED_UP:
+            answer.refusal.why += unsettled.words(answer, self.ask(unsettled.coarser(given.data), self.limits))
+        return answer
+
+    def answer_or_why(self, name):
+        try:
+            return self.answer(name)
+        except BadUse as error:
+            complain(str(error))
+            return Unanswered(name, str(error))
+        except NotToBeHad as error:
+            if self.no_program is None:
+                complain(str(error))
+            self.no_program = error
+            return Unanswered(name, str(error))
+
+    @property
+    def several(self):
+        return len(self.options.files) > 1
+
+    def show(self, number, found):
+        """Prints an answer and draws it."""
+        if not self.options.json:
+            first = all(isinstance(earlier, Unanswered) for earlier in self.found)
+            put(("" if first else "\n") + pages.page(found, self.several))
+        if self.options.plot:
+            self.draw(number, found)
+
+    def draw(self, number, found):
+        """A picture that cannot be written takes nothing from the answer."""
+        name = picture_name(self.options.plot, number, found.name, self.several)
+        try:
+            files.write(name, pictures.picture(found).encode("utf-8", "replace"), self.options.files)
+        except BadUse as error:
+            complain(str(error))
+            self.statuses.append(BAD_USE)
+
+    def run(self):
+        """The exit status."""
+        for number, name in enumerate(self.options.files, 1):
+            found = self.answer_or_why(name)
+            if not isinstance(found, Unanswered):
+                self.show(number, found)
+            self.found.append(found)
+            self.statuses.append(found.exit_status)
+        if self.options.json:
+            put(as_json.document(self.found))
+        return gravest(self.statuses)
+
+
+def picture_name(plot, number, name, several):
+    if not several:
+        return plot
+    stem, ending = os.path.splitext(plot)
+    return "%s-%d-%s%s" % (stem, number, os.path.splitext(os.path.basename(name))[0], ending)
