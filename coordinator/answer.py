@@ -3,7 +3,7 @@ from . import drawn, network, refusals, sheet_bounds, verdict
 from .limits import USUAL
 from .listings import Listing
 from .sheet_format import LINK_KINDS
-from .words import Units, counted, flow_words, link_words, listed, node_words, numbered
+from .words import (Units, a_node, counted, ends, flow_words, give_names, link_words, listed, node_words, numbered)
 
 # exit statuses
 CLEAN, REFUSED, BAD_USE, DOUBTFUL = 0, 1, 2, 3
@@ -20,8 +20,9 @@ def said_of(hydrants, one, several):
 
 
 class Answer:
-    def __init__(self, name, data, reply, limits=USUAL, whole=True):
-        self.name, self.limits = name, limits
+    def __init__(self, name, data, reply, limits=USUAL, whole=True, names=None):
+        """`whole` where `data` is all of the sheet; `names` those of the nodes, where they have some."""
+        self.name, self.limits, self.names = name, limits, names
         # number and place of the verdict; the solve's own are the listing's
         self.verdict, self.place = reply.verdict, reply.place
         self.listing = Listing(reply.text)
@@ -29,10 +30,11 @@ class Answer:
         found, _ = sheet_bounds.records(data)
         self.nodes = [fields for _, mark, fields in found if mark == b"ND"]
         self.links = [fields for _, mark, fields in found if mark == b"LK"]
+        give_names(self.nodes, self.links, names)
         self.entries = [(mark, int(number)) for mark, number in
                         (entry.split(" ") for entry in self.listing.record)]
         self.refusal = None if self.solved else refusals.explain(
-            data, self.listing.number, self.listing.place, whole)
+            data, self.listing.number, self.listing.place, whole, names)
         # refusals up to 5 may have no options to read
         self.units = None if 1 <= self.listing.number <= 5 else Units(found[0][2]["unit"])
         self.undetermined = self.find_undetermined()
@@ -86,6 +88,9 @@ class Answer:
         """In feet of water."""
         return self.listing.heads[node] - self.nodes[node]["elevation"]
 
+    def called(self, number, word="node"):
+        return a_node(number, self.nodes[number], word)
+
     def node(self, number):
         return node_words(number, self.nodes[number])
 
@@ -107,12 +112,12 @@ class Answer:
         link = self.links[number]
         # a valve that was freed may close, regulate again and be freed once more
         times = self.entries.count(("VF", number))
-        return "the %s at link %d (%d -> %d) was freed%s" % (
-            LINK_KINDS[link["kind"]], number, link["start"], link["end"], "" if times == 1 else " %d times" % times)
+        return "the %s at link %d (%s) was freed%s" % (
+            LINK_KINDS[link["kind"]], number, ends(link), "" if times == 1 else " %d times" % times)
 
     def repair_words(self):
         repairs = [self.freed_words(i) for i in self.freed]
-        repairs += ["node %d was tied to a reservoir that is not there" % i for i in self.grounded]
+        repairs += ["%s was tied to a reservoir that is not there" % self.called(i) for i in self.grounded]
         count = self.listing.freed + self.listing.grounded
         return ["with %s: %s" % ("a repair" if count == 1 else counted(count, "repair"), listed(repairs))
                 ] if repairs else []
@@ -121,7 +126,7 @@ class Answer:
         if not self.undetermined:
             return []
         return ["nothing determines the head%s of %s" % (
-            "" if len(self.undetermined) == 1 else "s", numbered("node", self.undetermined))]
+            "" if len(self.undetermined) == 1 else "s", numbered("node", self.undetermined, self.names))]
 
     def short_words(self):
         # drawn flows that do not fit say nothing about who gets less
@@ -130,16 +135,16 @@ class Answer:
         if not self.short:
             return "; every hydrant gets what it asks"
         worst = drawn.worst(self.short, lambda h: h.lack)
-        return "; %s, worst node %d, which lacks %s" % (
-            said_of(self.short, "gets less than it asks", "get less than they ask"), worst.number,
+        return "; %s, worst %s, which lacks %s" % (
+            said_of(self.short, "gets less than it asks", "get less than they ask"), self.called(worst.number),
             flow_words(self.units, worst.lack, worst.asked))
 
     def unfit_words(self):
         if not self.unfit:
             return []
         worst = drawn.worst(self.unfit, lambda h: abs(h.drawn - h.allowed))
-        return ["what %s does not fit the pressure there, worst node %d, which draws %s where the pressure "
-                "allows %s" % (said_of(self.unfit, "draws", "draw"), worst.number,
+        return ["what %s does not fit the pressure there, worst %s, which draws %s where the pressure "
+                "allows %s" % (said_of(self.unfit, "draws", "draw"), self.called(worst.number),
                                flow_words(self.units, worst.drawn), flow_words(self.units, worst.allowed))]
 
 

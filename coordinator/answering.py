@@ -1,11 +1,17 @@
 """Answers every file that the desk was asked about, one after the other, whatever becomes of the others."""
 import os
 
-from . import as_json, files, pages, pictures, unsettled
+from . import as_json, files, pages, pictures, schemes, unsettled
 from .answer import BAD_USE, CLEAN, Answer, gravest
 from .asking import NotToBeHad
 from .files import BadUse
-from .streams import complain, put
+from .schemes import BadText
+from .streams import complain, note, put
+
+
+def tell(error):
+    """On standard error; a text's mistakes as editors take them."""
+    (note if isinstance(error, BadText) else complain)(str(error))
 
 
 class Unanswered:
@@ -26,11 +32,11 @@ class Round:
         self.no_program = None
 
     def answer(self, name):
-        given = files.read(name)
+        given = schemes.read(name)
         if self.no_program:
             raise self.no_program
         (reply,) = self.ask([given.path or given.data], self.limits)
-        answer = Answer(given.name, given.data, reply, self.limits, given.path is None)
+        answer = Answer(given.name, given.data, reply, self.limits, given.path is None, given.names)
         if answer.listing.number == unsettled.USED_UP:
             answer.refusal.why += unsettled.words(answer, self.ask(unsettled.coarser(given.data), self.limits))
         return answer
@@ -39,7 +45,7 @@ class Round:
         try:
             return self.answer(name)
         except BadUse as error:
-            complain(str(error))
+            tell(error)
             return Unanswered(name, str(error))
         except NotToBeHad as error:
             if self.no_program is None:

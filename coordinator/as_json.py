@@ -31,7 +31,7 @@ def refusal(answer):
 def node(answer, i):
     fields, units = answer.nodes[i], answer.units
     head, demand, pressure = answer.listing.heads[i], answer.listing.demands[i], answer.pressure(i)
-    found = {"node": i, "kind": NODE_KINDS[fields["kind"]], "in_service": not fields["disabled"],
+    found = {"node": i, "name": fields.get("name"), "kind": NODE_KINDS[fields["kind"]], "in_service": not fields["disabled"],
              "grounded": i in answer.grounded, "undetermined": i in answer.undetermined}
     found.update(numbers(elevation_ft=fields["elevation"], head_ft=head, pressure_ft=pressure, demand_cfs=demand,
                          pressure=pressure * units.per_foot, demand=demand * units.per_cfs))
@@ -55,8 +55,9 @@ def giving_way(answer):
 
 def link(answer, i):
     fields, flow, status = answer.links[i], answer.listing.flows[i], answer.listing.statuses[i]
+    names = fields.get("names", (None, None))
     found = {"link": i, "kind": LINK_KINDS[fields["kind"]], "start": fields["start"], "end": fields["end"],
-             "in_service": in_service(fields, answer.nodes), "freed": i in answer.freed,
+             "start_name": names[0], "end_name": names[1], "in_service": in_service(fields, answer.nodes), "freed": i in answer.freed,
              "status": STATUSES[status], "status_in_sheet": STATUSES[fields["status"]],
              "changed": status != fields["status"]}
     found.update(numbers(flow_cfs=flow, flow=flow * answer.units.per_cfs))

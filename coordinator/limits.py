@@ -4,7 +4,7 @@ import argparse
 import math
 from collections import namedtuple
 
-from .sheet_text import FLOW, NUMBER, PRESSURE, Mistake, figure
+from .sheet_text import FLOW, PRESSURE, Mistake, figure, parted
 from .words import quoted
 
 # lowest pressure and tolerance of heads in feet, tolerance of flows in cubic feet per second
@@ -14,10 +14,9 @@ USUAL = Limits(lowest=0.0, head=0.1, flow=0.001)
 
 def measured(name, text, units):
     """`10 m` or `10m` in the sheet's own unit."""
-    number = NUMBER.match(text.strip())
-    cut = number.end() if number else len(text)
+    number, unit = parted(text.strip())
     try:
-        x = figure(name, [word for word in (text.strip()[:cut], text.strip()[cut:].strip()) if word], units)
+        x = figure(name, [word for word in (number, unit.strip()) if word], units)
     except Mistake as mistake:
         raise argparse.ArgumentTypeError(str(mistake)) from mistake
     if not math.isfinite(x):
@@ -35,7 +34,7 @@ def within(text):
     found = {}
     for part in text.split(","):
         x = measured("a tolerance", part, dict(PRESSURE, **FLOW))
-        name = "head" if part.strip().lower().endswith(tuple(PRESSURE)) else "flow"
+        name = "head" if parted(part.strip())[1].strip().lower() in map(str.lower, PRESSURE) else "flow"
         if x < 0:
             raise argparse.ArgumentTypeError("a tolerance must be 0 or more")
         if name in found:

@@ -3,12 +3,13 @@ import argparse
 import os
 import traceback
 
-from . import answering, asking, files, limits, sheet_text, streams
+from . import answering, asking, files, limits, schemes, streams, text_of_sheet
 from .answer import BAD_USE, CLEAN, gravest
+from .answering import tell
 from .files import BadUse
 from .sheet_format import shown
-from .streams import OutputLost, complain, note, put
-from .words import counted, quoted
+from .streams import OutputLost, complain, put
+from .words import quoted
 
 DESCRIPTION = ("Solves network sheets by the proved program and tells a person or a program what came out and "
                "whether it may be sold.")
@@ -20,8 +21,6 @@ EPILOG = """exit status:
   of several sheets the gravest counts: 2, then 3, then 1
 
 docs/DESK.md says what the output means, docs/SHEETS.md how to write a sheet by hand."""
-# of a text's mistakes so many are told one by one
-MOST_MISTAKES = 40
 
 
 class Parser(argparse.ArgumentParser):
@@ -33,7 +32,8 @@ class Parser(argparse.ArgumentParser):
 def parser():
     p = Parser(prog="desk", description=DESCRIPTION, epilog=EPILOG, allow_abbrev=False,
                formatter_class=argparse.RawDescriptionHelpFormatter)
-    p.add_argument("files", nargs="*", metavar="SHEET", help="a network sheet")
+    p.add_argument("files", nargs="*", metavar="SCHEME", help="a network sheet, or a scheme in the text form; - reads "
+                   "standard input")
     p.add_argument("--json", action="store_true", help="print one JSON list, an entry a sheet")
     p.add_argument("--plot", metavar="FILE.svg", help="also draw the pressures; with several sheets each has "
                    "its own picture, FILE-1-NAME.svg and so on")
@@ -43,7 +43,8 @@ def parser():
                    "flows may be from what the laws say, as 0.1ft,0.001cfs (so it is if not given) or one of the two")
     p.add_argument("--explain", action="store_true", help="print the sheets' records with their byte offsets")
     p.add_argument("--sheet", metavar="TEXTFILE", help="turn a scheme in the text form into a sheet")
-    p.add_argument("-o", dest="out", metavar="FILE.sheet", help="where --sheet writes it")
+    p.add_argument("--text", metavar="SHEET", help="print a sheet in the text form, which gives that sheet again")
+    p.add_argument("-o", dest="out", metavar="FILE", help="where --sheet and --text write it")
     return p
 
 
@@ -55,15 +56,15 @@ def limits_of(options):
 def check(p, options):
     """Ends with a message where the arguments do not go together."""
     asks = options.json or options.plot or options.least is not None or options.within
-    if options.sheet is not None:
-        if options.out is None:
+    if options.sheet is not None or options.text is not None:
+        if options.sheet is not None and options.out is None:
             p.error("--sheet needs -o FILE.sheet")
-        if options.files or options.explain or asks:
-            p.error("--sheet goes with -o alone")
+        if options.files or options.explain or asks or None not in (options.sheet, options.text):
+            p.error("--sheet and --text go with -o alone")
     elif options.out is not None:
-        p.error("-o goes with --sheet")
+        p.error("-o goes with --sheet or --text")
     elif not options.files:
-        p.error("name a sheet")
+        p.error("name a scheme: a sheet or a text")
     elif options.explain and asks:
         p.error("--explain goes alone")
     elif options.plot is not None and not options.plot.endswith(".svg"):
@@ -72,7 +73,7 @@ def check(p, options):
 
 
 def records_of(name):
-    given = files.read(name)
+    given = schemes.read(name)
     if given.path:
         raise BadUse("%s has more than %d bytes, and the longest sheet has 9,199" % (files.shown(name), files.MOST))
     return list(shown(given.data))
@@ -86,33 +87,37 @@ def explain_all(names):
             put("".join(line + "\n" for line in ([files.shown(name)] if names[1:] else []) + lines))
             statuses.append(CLEAN)
         except BadUse as error:
-            complain(str(error))
+            tell(error)
             statuses.append(BAD_USE)
     return gravest(statuses)
 
 
 def make_sheet(name, out):
-    try:
-        data, scheme = sheet_text.read_scheme(files.read(name).data)
-    except sheet_text.Mistakes as mistakes:
-        tell_mistakes(name, mistakes)
-        return BAD_USE
+    data, scheme = schemes.of_text(files.read(name))
     files.write(out, data, [name])
-    put("wrote %s, %d bytes\n" % (files.shown(out), len(data)) + "".join("  %s\n" % line for line in scheme))
+    put("wrote %s, %d bytes\n" % (files.shown(out), len(data)) + "".join("  %s\n" % line for line in scheme.shown()))
     return CLEAN
 
 
-def tell_mistakes(name, mistakes):
-    for line, words in mistakes.found[:MOST_MISTAKES]:
-        note("%s:%d: %s" % (files.shown(name), line, words))
-    more = len(mistakes.found) - MOST_MISTAKES
-    if more > 0:
-        note("%s: and %s" % (files.shown(name), counted(more, "more mistake")))
+def make_text(name, out):
+    given = files.read(name)
+    try:
+        text = text_of_sheet.text_of(given.data)
+    except text_of_sheet.NotGood as error:
+        raise BadUse("%s: %s" % (files.shown(name), error)) from error
+    if out is None:
+        put(text)
+    else:
+        files.write(out, text.encode("ascii"), [name])
+        put("wrote %s\n" % files.shown(out))
+    return CLEAN
 
 
 def run(options, ask):
     if options.sheet is not None:
         return make_sheet(options.sheet, options.out)
+    if options.text is not None:
+        return make_text(options.text, options.out)
     if options.explain:
         return explain_all(options.files)
     return answering.Round(options, limits_of(options), ask).run()
@@ -125,7 +130,7 @@ def main(args, ask=asking.ask):
     try:
         return run(options, ask)
     except BadUse as error:
-        complain(str(error))
+        tell(error)
         return BAD_USE
 
 

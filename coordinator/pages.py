@@ -4,7 +4,7 @@ from .drawn import pressure_range
 from .files import shown
 from .network import JUNCTION, in_service
 from .sheet_format import LINK_KINDS, NODE_KINDS, STATUSES
-from .words import fixed, flow_figures, flow_words, pressure_words, small
+from .words import NAME, fixed, flow_figures, flow_words, pressure_words, quoted, small
 
 
 def table(header, rows):
@@ -32,25 +32,34 @@ def flow_names(units, word):
     return [word + " cfs"] + ([word + " " + units.flow] if units.flow != "CFS" else [])
 
 
+def labels(answer, number):
+    """A node's number and, where it has one, its name."""
+    return [str(number)] + ([quoted(answer.names[number], NAME)] if answer.names else [])
+
+
+def label_names(answer):
+    return ["node"] + (["<name"] if answer.names else [])
+
+
 def node_row(answer, number):
     units, listing = answer.units, answer.listing
     head, pressure = listing.heads[number], answer.pressure(number)
     heads = [head] + ([head * units.per_foot] if units.metric else [])
-    return ([str(number), NODE_KINDS[answer.nodes[number]["kind"]]]
+    return (labels(answer, number) + [NODE_KINDS[answer.nodes[number]["kind"]]]
             + [fixed(x, 2) for x in heads + [pressure, pressure * units.per_foot]]
             + flow_figures(units, listing.demands[number]) + [node_marks(answer, number)])
 
 
 def nodes(answer):
     units = answer.units
-    header = (["node", "<kind", "head ft"] + (["head m"] if units.metric else [])
+    header = (label_names(answer) + ["<kind", "head ft"] + (["head m"] if units.metric else [])
               + ["pressure ft", "pressure " + units.pressure]
               + flow_names(units, "drawn" if answer.pd else "demand") + ["<"])
     return table(header, [node_row(answer, i) for i in range(len(answer.nodes))])
 
 
 def hydrant_row(answer, hydrant):
-    return ([str(hydrant.number)]
+    return (labels(answer, hydrant.number)
             + [figure for flow in (hydrant.asked, hydrant.drawn, hydrant.lack)
                for figure in flow_figures(answer.units, flow)]
             + [fixed(100.0 * hydrant.lack / hydrant.asked, 1), "" if hydrant.fits else unfit_mark(answer, hydrant)])
@@ -67,7 +76,7 @@ def hydrants(answer):
     least = answer.pd["minimum"]
     yield "  no water at a pressure of %s or below, all that is asked from %s on" % tuple(
         pressure_words(answer.units, feet) for feet in (least, least + pressure_range(answer.pd)))
-    header = ["node"] + [name for word in ("asked", "drawn", "lacks") for name in flow_names(answer.units, word)]
+    header = label_names(answer) + [name for word in ("asked", "drawn", "lacks") for name in flow_names(answer.units, word)]
     yield from table(header + ["lacks %", "<"], [hydrant_row(answer, h) for h in answer.hydrants.values()])
 
 
@@ -82,13 +91,15 @@ def link_marks(answer, number):
 
 def link_row(answer, number):
     link, listing = answer.links[number], answer.listing
-    return ([str(number), LINK_KINDS[link["kind"]], str(link["start"]), str(link["end"])]
+    return ([str(number), LINK_KINDS[link["kind"]]]
+            + [labels(answer, link[end])[-1] for end in ("start", "end")]
             + flow_figures(answer.units, listing.flows[number])
             + [STATUSES[listing.statuses[number]], link_marks(answer, number)])
 
 
 def links(answer):
-    header = ["link", "<kind", "start", "end"] + flow_names(answer.units, "flow") + ["<status", "<"]
+    ends = ["<start", "<end"] if answer.names else ["start", "end"]
+    header = ["link", "<kind"] + ends + flow_names(answer.units, "flow") + ["<status", "<"]
     return table(header, [link_row(answer, i) for i in range(len(answer.links))])
 
 

@@ -8,7 +8,7 @@ from html import escape
 
 from .network import HOLDS, along, in_service
 from .sheet_format import LINK_KINDS, NODE_KINDS
-from .words import METRES_PER_FOOT, fixed, flow_figures
+from .words import METRES_PER_FOOT, ends, fixed, flow_figures, quoted
 
 COLOURS = {"junction": "#3b78b5", "reservoir": "#1f8f82", "tank": "#7a9a2e"}
 NEGATIVE, DOUBT, GROUND, INK = "#8e44ad", "#c0392b", "#7a5a3a", "#222"
@@ -18,6 +18,8 @@ UP, DOWN = "\u2191", "\u2193"
 GAUGE, GAUGE_LINE, GAUGE_ROOM = 34, 14, 58
 DRAWN, LACKED = "#3b78b5", "#f6d9a8"
 LEAST_WIDTH, LINE = 700, 17
+# a letter's width, and how many of them a name has at most
+LETTER, MOST_LETTERS = 6.7, 20
 STYLE = ("text{font-family:Helvetica,Arial,sans-serif;font-size:12px;fill:%s}"
          ".t{font-size:15px;font-weight:bold}.d{fill:%s;font-weight:bold}" % (INK, DOUBT))
 HATCH = ('<pattern id="hatch" width="7" height="7" patternUnits="userSpaceOnUse" patternTransform="rotate(45)">'
@@ -69,8 +71,10 @@ class Frame:
         self.slot = (self.width - LEFT - RIGHT) / len(self.order)
         self.top, self.bottom = top, top + PLOT_HEIGHT
         self.low, self.high = span(answer)
-        # below the numbers of the nodes
-        self.under = self.bottom + (GAUGE_ROOM if answer.pd else 0)
+        # names stand upright where one of them is wider than its place
+        self.upright = any(len(label(answer, i)) * LETTER > self.slot - 4 for i in self.order)
+        self.label_room = max(len(label(answer, i)) for i in self.order) * LETTER if self.upright else 0
+        self.under = self.bottom + self.label_room + (GAUGE_ROOM if answer.pd else 0)
 
     def x(self, node):
         """The middle of a node's bar."""
@@ -92,6 +96,11 @@ def span(answer):
     low, high = min(heights), max(heights)
     air = 0.08 * (high - low) or 1.0
     return low - (air if low < 0 else min(air, low) if low > 0 else 0.0), high + 1.6 * air
+
+
+def label(answer, node):
+    """What stands under a node's bar."""
+    return quoted(answer.names[node], MOST_LETTERS) if answer.names else str(node)
 
 
 def bar_colours(answer, node):
@@ -122,7 +131,11 @@ def bar(answer, frame, node):
         yield text(x, upper - 5, figure, "d" if node in answer.low else "", "middle")
     else:
         yield text(x + 4, upper - 5, figure, "d" if node in answer.low else "", turn=-90)
-    yield text(x, frame.bottom + 16, str(node), "d" if node in answer.grounded else "", "middle")
+    kind = "d" if node in answer.grounded else ""
+    if frame.upright:
+        yield text(x + 4, frame.bottom + 8, label(answer, node), kind, "end", turn=-90)
+    else:
+        yield text(x, frame.bottom + 16, label(answer, node), kind, "middle")
 
 
 def set_heads(answer, frame):
@@ -149,12 +162,13 @@ def bracket(answer, frame, number, level):
     yield line(a, y, b, y, DOUBT, 2.2)
     yield line(a, y, a, y + 7, DOUBT, 2.2)
     yield line(b, y, b, y + 7, DOUBT, 2.2)
-    yield text((a + b) / 2, y - 5, "%s at link %d freed" % (LINK_KINDS[link["kind"]], number), "d", "middle")
+    yield text((a + b) / 2, y - 5, "%s %s freed" % (
+        LINK_KINDS[link["kind"]], ends(link) if answer.names else "at link %d" % number), "d", "middle")
 
 
 def gauge(answer, frame, hydrant):
     """All that a hydrant asks, filled as far as it draws; under it what it lacks."""
-    x, y, wide = frame.x(hydrant.number), frame.bottom + 24, frame.slot * 0.4
+    x, y, wide = frame.x(hydrant.number), frame.bottom + frame.label_room + 24, frame.slot * 0.4
     full = GAUGE * min(1.0, max(0.0, hydrant.drawn / hydrant.asked))
     yield box(x - wide / 2, y, wide, GAUGE, LACKED, "none" if hydrant.fits else DOUBT)
     yield box(x - wide / 2, y + GAUGE - full, wide, full, DRAWN)
@@ -236,7 +250,7 @@ def legend(answer, frame):
 def title(answer, width):
     """The drawing, and the height it takes."""
     # some characters that a file's name may have are forbidden in XML
-    name = "".join(c if c.isprintable() else "?" for c in os.path.basename(answer.name))
+    name = quoted(os.path.basename(answer.name))
     drawn = [text(16, 24, "Pressures of " + name, "t")]
     y = 24
     for words in textwrap.wrap(answer.first_line(), int((width - 32) / 7.3)):

@@ -1,7 +1,8 @@
 """What a refusal means: the record, the field where it can be told, and what to mend."""
 from . import sheet_bounds
+from .schemes import looks_like_text
 from .sheet_format import BYTES, LINK_KINDS
-from .words import counted, link_words, node_words
+from .words import counted, give_names, link_words, node_words
 
 MEANINGS = {
     1: "a record cannot be read as the layout says",
@@ -46,10 +47,6 @@ def numbered(found):
         count[mark] += 1
 
 
-def looks_like_text(data):
-    return all(byte in b"\t\n\r" or 32 <= byte < 127 for byte in data[:64])
-
-
 def unreadable(data, place):
     if not data:
         return Refusal(1, place, "the sheet is empty", "write the sheet anew")
@@ -65,7 +62,7 @@ def unreadable(data, place):
             "write the sheet anew, whole; it may have been cut in copying", title(mark, number), place)
     if place == 0 and looks_like_text(data):
         return Refusal(1, place, "the file is text and not a sheet",
-                       "turn the text form into a sheet first: ./desk --sheet TEXTFILE -o FILE.sheet")
+                       "give its name another ending than .sheet: the text form is solved as it is")
     if mark == b"PD":
         return Refusal(1, place, "%s stands %s: a PD must stand straight after the OP, once" % (
             title(mark, number), "there a second time" if number else "out of order"),
@@ -139,15 +136,16 @@ def too_little_room(data, place):
                    "nothing in the sheet: the program that called the solver must lend more")
 
 
-def record_of(data, mark, number):
+def record_of(data, mark, number, names):
     """A record in words and its offset, by its number among its kind."""
     found, _ = sheet_bounds.records(data)
+    give_names(*([fields for _, m, fields in found if m == kind] for kind in (b"ND", b"LK")), names)
     offset, fields = [(at, fields) for at, m, fields in found if m == mark][number]
     return title(mark, number, fields), offset
 
 
-def singular(data, place):
-    record, offset = record_of(data, b"ND", place)
+def singular(data, place, names):
+    record, offset = record_of(data, b"ND", place, names)
     return Refusal(6, place, "at %s the matrix failed again though the node was grounded" % record,
                    "look at what joins this node to a source, and for links of next to no resistance there",
                    record, offset)
@@ -162,9 +160,9 @@ def run_away(place):
     return "head of", b"ND", place
 
 
-def ran_away(data, place):
+def ran_away(data, place, names):
     what, mark, number = run_away(place)
-    record, offset = record_of(data, mark, number)
+    record, offset = record_of(data, mark, number, names)
     return Refusal(7, place, "the %s %s became no number, infinite or at least 2^64 in magnitude" % (what, record),
         "look for a demand, a setting, a resistance or a first flow near it that is far too great "
         "(all are in feet and cubic feet per second)", record, offset)
@@ -186,6 +184,9 @@ def used_up(data, place):
 EXPLAIN = {1: unreadable, 2: wrong_count, 3: out_of_bounds, 4: wrong_ends, 5: too_little_room,
            6: singular, 7: ran_away, 8: used_up}
 
+# those that tell of a node or a link by its name
+NAMED = (6, 7)
+
 
 def of_a_long_file(number, place):
     """Only 1 and 2 can be told of a file that is longer than any sheet, and not all of it is held."""
@@ -195,12 +196,12 @@ def of_a_long_file(number, place):
                    "name a sheet: the longest has 9,199 bytes")
 
 
-def explain(data, number, place, whole=True):
-    """`data` may be a long file's beginning alone; then it is not `whole`."""
+def explain(data, number, place, whole=True, names=None):
+    """`data` may be a long file's beginning alone; then it is not `whole`. A sheet with names has no refusal below 6."""
     if not whole:
         return of_a_long_file(number, place)
     try:
-        return EXPLAIN[number](data, place)
+        return EXPLAIN[number](data, place, names) if number in NAMED else EXPLAIN[number](data, place)
     except (IndexError, KeyError, ValueError):
         # the program decides; what it says is told even where it cannot be followed here
         return Refusal(number, place, "what is wrong there cannot be told",

@@ -1,18 +1,21 @@
-"""The text form of a sheet: one record a line, names for nodes, a unit after every figure that has one.
-docs/SHEETS.md describes it; `./desk --sheet TEXTFILE -o FILE.sheet` turns it into a sheet."""
+"""The text form of a sheet, read: one record a line, names for nodes, a unit after every figure that has one.
+docs/SHEETS.md describes it; text_of_sheet.py writes it."""
 import math
 import re
 
 from . import sheet_bounds
 from .sheet_format import LINK_KINDS, NODE_KINDS, PER_CFS, STATUSES, UNITS, Sheet
-from .words import METRES_PER_FOOT, PSI_PER_FOOT, quoted
+from .words import BAR_PER_METRE, METRES_PER_FOOT, PSI_PER_FOOT, quoted
 
 NUMBER = re.compile(r"[+-]?(\d+\.?\d*|\.\d+)([eE][+-]?\d+)?", re.ASCII)
+UNIT = re.compile(r"\s*[A-Za-z%]")
 
 # what a figure may be given in, and how many of it make the sheet's own unit
-FLOW = {name.lower(): per for name, per in zip(UNITS, PER_CFS)}
+FLOW = dict(zip(UNITS, PER_CFS))
+FLOW.update({"L/s": FLOW["LPS"], "L/min": FLOW["LPM"], "m3/h": FLOW["CMH"], "m3/d": FLOW["CMD"]})
 HEIGHT = {"ft": 1.0, "m": METRES_PER_FOOT}
-PRESSURE = {"ft": 1.0, "m": METRES_PER_FOOT, "psi": PSI_PER_FOOT}
+PRESSURE = {"ft": 1.0, "m": METRES_PER_FOOT, "psi": PSI_PER_FOOT, "bar": METRES_PER_FOOT * BAR_PER_METRE,
+            "kPa": METRES_PER_FOOT * BAR_PER_METRE * 100.0}
 WIDTH = {"ft": 1.0, "in": 12.0, "m": METRES_PER_FOOT, "mm": METRES_PER_FOOT * 1000.0}
 PERCENT = {"%": 1.0}
 BARE = None
@@ -22,16 +25,16 @@ SETTINGS = {"PRV": PRESSURE, "PSV": PRESSURE, "PBV": PRESSURE, "FCV": FLOW, "TCV
 FIGURES = {
     "options": {"accuracy": BARE, "trials": BARE, "damping-limit": BARE, "max-flow-change": FLOW},
     "pressures": {"minimum": PRESSURE, "required": PRESSURE},
-    "junction": {"elevation": HEIGHT, "demand": FLOW, "head": HEIGHT},
-    "reservoir": {"elevation": HEIGHT, "demand": FLOW, "head": HEIGHT},
-    "tank": {"elevation": HEIGHT, "head": HEIGHT, "max-level": HEIGHT, "min-level": HEIGHT},
-    "pipe": {"resistance": BARE, "length": HEIGHT, "roughness": BARE, "diameter": WIDTH, "minor-loss": BARE,
-             "flow": FLOW},
 }
-FIGURES.update({kind: {"setting": unit, "diameter": WIDTH, "minor-loss": BARE, "flow": FLOW}
+# every field of the record, also those that its kind does not use, so that a sheet has a text form byte for byte
+FIGURES.update({kind: {"elevation": HEIGHT, "demand": FLOW, "head": HEIGHT, "max-level": HEIGHT, "min-level": HEIGHT}
+                for kind in NODE_KINDS})
+FIGURES["pipe"] = {"resistance": BARE, "length": HEIGHT, "roughness": BARE, "diameter": WIDTH, "minor-loss": BARE,
+                   "flow": FLOW, "setting": BARE}
+FIGURES.update({kind: {"setting": unit, "diameter": WIDTH, "minor-loss": BARE, "flow": FLOW, "resistance": BARE}
                 for kind, unit in SETTINGS.items()})
-FLAGS = {"junction": ["disabled"], "reservoir": ["disabled"], "tank": ["disabled", "overflow"],
-         "pipe": ["check-valve"]}
+FLAGS = {kind: ["disabled", "overflow"] for kind in NODE_KINDS}
+FLAGS.update({kind: ["check-valve"] for kind in LINK_KINDS})
 NEEDED = {"pressures": ["minimum", "required"], "junction": ["elevation"], "reservoir": ["head"],
           "tank": ["elevation", "head", "max-level", "min-level"]}
 NEEDED.update({kind: ["setting", "diameter"] for kind in SETTINGS})
@@ -64,17 +67,29 @@ def take(words, what):
     return words.pop(0)
 
 
+def parted(text):
+    """A figure and the unit that may stand straight behind it: `10m`."""
+    number = NUMBER.match(text)
+    cut = number.end() if number else 0
+    return text[:cut], text[cut:]
+
+
+def per_of(units, unit, name):
+    for known, per in units.items():
+        if known.lower() == unit.lower().replace("\u00b3", "3"):
+            return per
+    raise Mistake("%s is no unit for %s; there are %s" % (quoted(unit), name, ", ".join(units)))
+
+
 def figure(name, words, units):
     """The number after a figure's name, turned into the sheet's unit by the unit after it."""
     text = take(words, "the figure of " + name)
-    if not NUMBER.fullmatch(text):
+    number, unit = parted(text)
+    if not number or (unit and (units is BARE or not UNIT.match(unit))):
         raise Mistake("%s is no number, but the figure of %s is expected" % (quoted(text), name))
     if units is BARE:
-        return float(text)
-    unit = take(words, "the unit of " + name)
-    if unit.lower() not in units:
-        raise Mistake("%s is no unit for %s; there are %s" % (quoted(unit), name, ", ".join(units)))
-    return float(text) / units[unit.lower()]
+        return float(number)
+    return float(number) / per_of(units, unit or take(words, "the unit of " + name), name)
 
 
 def fields_of(kind, words, **other_units):
@@ -91,7 +106,7 @@ def fields_of(kind, words, **other_units):
         elif name == "status" and kind in LINK_KINDS:
             found[name] = one_of(STATUSES, take(words, "a status"), "status")
         elif name == "flow-unit" and kind == "options":
-            found[name] = one_of(UNITS, take(words, "a flow unit"), "flow unit")
+            found[name] = one_of(FLOW, take(words, "a flow unit"), "flow unit")
         else:
             raise Mistake("%s has no %s; it may have %s" % (kind, quoted(name), ", ".join(allowed(kind))))
     missing = [name for name in NEEDED.get(kind, ()) if name not in found]
@@ -109,13 +124,14 @@ def flow_unit(words):
     """The flow unit that an options line names; asked for first, since max-flow-change is kept in it."""
     for name, unit in zip(words, words[1:]):
         if name.lower() == "flow-unit":
-            return one_of(UNITS, unit, "flow unit")
+            known = one_of(FLOW, unit, "flow unit")
+            return next(name for name in UNITS if FLOW[name] == FLOW[known])
     return "CFS"
 
 
 def counted_in(unit):
     """Every flow unit, seen from one of them; from itself it is exactly 1."""
-    return {name: per / FLOW[unit.lower()] for name, per in FLOW.items()}
+    return {name: per / FLOW[unit] for name, per in FLOW.items()}
 
 
 def underscored(found):
@@ -139,11 +155,14 @@ def resistance(found):
         raise Mistake("so small a diameter or roughness gives no resistance that can be told") from error
 
 
+def first_flow(diameter):
+    """The original's first guess: one foot a second through the whole diameter."""
+    return 0.25 * math.pi * diameter * diameter
+
+
 def link_fields(kind, found):
     found = dict(found)
-    diameter = found.setdefault("diameter", 1.0)
-    # the old solver's first guess: one foot a second through the whole diameter
-    found.setdefault("flow", 0.25 * math.pi * diameter * diameter)
+    found.setdefault("flow", first_flow(found.setdefault("diameter", 1.0)))
     found.setdefault("status", "Open" if kind == "pipe" else "Active")
     if kind == "pipe":
         found["resistance"] = resistance(found)
@@ -157,10 +176,10 @@ class Scheme:
 
     def __init__(self):
         self.sheet = Sheet()
-        # where the lines that may be there once were
+        # in which line each kind stood that may be there once
         self.once = {}
         self.numbers, self.lines = {}, {b"OP": [1], b"PD": [], b"ND": [], b"LK": []}
-        self.waiting, self.names = [], []
+        self.waiting, self.joined = [], []
 
     def only(self, kind, mark, line):
         if kind in self.once:
@@ -217,7 +236,7 @@ class Scheme:
             if name not in self.numbers:
                 raise Mistake("no node is called " + quoted(name))
         self.lines[b"LK"].append(line)
-        self.names.append((kind, start, end))
+        self.joined.append((kind, start, end))
         self.sheet.link(kind, self.numbers[start], self.numbers[end], **fields)
 
     def bounds(self):
@@ -238,11 +257,16 @@ class Scheme:
             if fault:
                 yield line, "its %s must be %s" % fault
 
+    @property
+    def names(self):
+        """Of the nodes, in their order."""
+        return list(self.numbers)
+
     def shown(self):
         """Which number each name got."""
         for (name, number), node in zip(self.numbers.items(), self.sheet.nodes):
             yield "node %d  %s %s" % (number, NODE_KINDS[node["kind"]], quoted(name))
-        for number, (kind, start, end) in enumerate(self.names):
+        for number, (kind, start, end) in enumerate(self.joined):
             yield "link %d  %s %s -> %s" % (number, kind, quoted(start), quoted(end))
 
 
@@ -261,7 +285,7 @@ def decoded(data):
 
 
 def read_scheme(data):
-    """The sheet's bytes, and lines that say which number each name got; or Mistakes, all of them."""
+    """The sheet's bytes, and the scheme with its names; or Mistakes, all of them."""
     scheme, mistakes = Scheme(), []
     # as editors count them: not splitlines, which ends a line at a form feed and at other signs too
     for line, text in enumerate(decoded(data).split("\n"), 1):
@@ -274,4 +298,4 @@ def read_scheme(data):
     found = mistakes or list(scheme.bounds())
     if found:
         raise Mistakes(sorted(found))
-    return scheme.sheet.encode(), list(scheme.shown())
+    return scheme.sheet.encode(), scheme

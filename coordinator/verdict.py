@@ -31,12 +31,12 @@ def not_held(answer, number):
     link = answer.links[number]
     node = link[HOLDS[LINK_KINDS[link["kind"]]]]
     gap = answer.listing.heads[node] - (link["setting"] + answer.nodes[node]["elevation"])
-    return "the head of node %d is %.2g ft from the one that %s is set to hold, and %.2g ft is allowed" % (
-        node, abs(gap), link_words(number, link), answer.limits.head)
+    return "the head of %s is %.2g ft from the one that %s is set to hold, and %.2g ft is allowed" % (
+        answer.called(node), abs(gap), link_words(number, link), answer.limits.head)
 
 
 def not_drawn(answer, node):
-    return "what node %d draws does not fit the pressure there" % node
+    return "what %s draws does not fit the pressure there" % answer.called(node)
 
 
 def lowest_allowed(answer, node):
@@ -54,8 +54,8 @@ def too_low(answer, node):
     pressure, lowest = answer.pressure(node), lowest_allowed(answer, node)
     digits = apart(pressure, lowest)
     more = len([i for i in low_nodes(answer) if i != node])
-    return "%s %d has %s, the lowest allowed is %s%s" % (
-        "hydrant" if is_hydrant(answer.nodes[node]) else "node", node,
+    return "%s has %s, the lowest allowed is %s%s" % (
+        answer.called(node, "hydrant" if is_hydrant(answer.nodes[node]) else "node"),
         pressure_words(answer.units, pressure, digits), pressure_words(answer.units, lowest, digits),
         "" if not more else ", and %s too low" % (counted(more, "more node") + (" is" if more == 1 else " are")))
 

@@ -3,8 +3,10 @@ from .sheet_format import LINK_KINDS, NODE_KINDS, PER_CFS, UNITS, named
 
 # the original's factors: psi and metres of water in a foot of it
 PSI_PER_FOOT, METRES_PER_FOOT = 0.4333, 0.3048
-# how much of a file a message quotes
-QUOTED = 60
+# of water, at standard gravity
+BAR_PER_METRE = 0.0980665
+# how much of a file a message quotes, and how much of a name a table shows
+QUOTED, NAME = 60, 24
 METRIC = UNITS[UNITS.index("LPS"):]
 
 
@@ -94,17 +96,39 @@ def runs(numbers):
     return found
 
 
-def numbered(word, numbers):
-    """`node 4`, `nodes 1 and 2`, `nodes 1 to 5 and 8`."""
+def numbered(word, numbers, names=None):
+    """`node 4`, `nodes 1 and 2`, `nodes 1 to 5 and 8`; with names `nodes 1 (upper) and 2 (lower)`."""
     parts = []
     for first, last in runs(numbers):
         parts += ["%d to %d" % (first, last)] if last - first > 1 else map(str, range(first, last + 1))
+    if names:
+        parts = ["%d (%s)" % (number, quoted(names[number], NAME)) for number in numbers]
     return "%s%s %s" % (word, "" if len(numbers) == 1 else "s", listed(parts))
 
 
+def give_names(nodes, links, names):
+    """Puts the names of the nodes, where there are any, beside the fields of the records."""
+    for node, name in zip(nodes, names or ()):
+        node["name"] = name
+    for link in links if names else ():
+        link["names"] = names[link["start"]], names[link["end"]]
+
+
+def a_node(number, node, word="node"):
+    """`node 3`, or `node 3 (field)`."""
+    return "%s %d" % (word, number) + (" (%s)" % quoted(node["name"], NAME) if "name" in node else "")
+
+
 def node_words(number, node):
-    return "node %d (%s)" % (number, named(NODE_KINDS, node["kind"]))
+    """`node 3 (junction)`, or `node 3 (junction field)`."""
+    kind = named(NODE_KINDS, node["kind"])
+    return "node %d (%s)" % (number, "%s %s" % (kind, quoted(node["name"], NAME)) if "name" in node else kind)
+
+
+def ends(link):
+    """`2 -> 3`, or `lower -> field`."""
+    return "%s -> %s" % tuple(quoted(name, NAME) for name in link.get("names", (str(link["start"]), str(link["end"]))))
 
 
 def link_words(number, link):
-    return "link %d (%s %d -> %d)" % (number, named(LINK_KINDS, link["kind"]), link["start"], link["end"])
+    return "link %d (%s %s)" % (number, named(LINK_KINDS, link["kind"]), ends(link))

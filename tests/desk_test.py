@@ -484,12 +484,12 @@ class LimitsGiven(unittest.TestCase):
         for option, text, words in (
                 ("--least", "10", "the line ends where the unit of the lowest pressure is expected"),
                 ("--least", "ten m", "ten m is no number, but the figure of the lowest pressure is expected"),
-                ("--least", "3lps", "lps is no unit for the lowest pressure; there are ft, m, psi"),
+                ("--least", "3lps", "lps is no unit for the lowest pressure; there are ft, m, psi, bar, kPa"),
                 ("--least", "nan m", "nan m is no number"), ("--least", "1e999m", "1e999m is too great"),
                 ("--least", "", "the line ends where the figure"),
                 ("--within", "1", "the line ends where the unit of a tolerance is expected"),
                 ("--within", "1ft,2m", "the tolerance of heads is given twice"),
-                ("--within", "1furlong", "furlong is no unit for a tolerance; there are ft, m, psi, cfs,"),
+                ("--within", "1furlong", "furlong is no unit for a tolerance; there are ft, m, psi, bar, kPa, CFS,"),
                 ("--within", "-1ft", "a tolerance must be 0 or more"),
                 ("--within", "1ft,", "the line ends where the figure of a tolerance is expected")):
             self.assertIn(words, self.refused(option + "=" + text))
@@ -931,10 +931,13 @@ class TextForm(unittest.TestCase):
                  "PSV, PBV, FCV, TCV, PCV"),
              (7, "no node is called c"),
              (8, "`pipe START -> END` is expected, the names of two nodes"),
-             (9, "PRV has no colour; it may have setting, diameter, minor-loss, flow, status")])
+             (9, "PRV has no colour; it may have setting, diameter, minor-loss, flow, resistance, check-valve, status")])
 
     def test_figures_that_are_none(self):
-        for figure in ("ten", "nan", "inf", "1_0", "1e", "0x1"):
+        for figure in ("1e", "0x1"):
+            self.assertEqual(self.mistakes("reservoir a head %s ft" % figure),
+                             [(1, figure[1:] + " is no unit for head; there are ft, m")])
+        for figure in ("ten", "nan", "inf", "1_0", "--1", "1.2.3", "\u0661"):
             self.assertEqual(self.mistakes("reservoir a head %s ft" % figure),
                              [(1, figure + " is no number, but the figure of head is expected")])
         self.assertEqual(self.mistakes("reservoir a head 3 psi"),
@@ -949,7 +952,7 @@ class TextForm(unittest.TestCase):
                             ("options trials 201", "trials is 201 but must be 1 to 200"),
                             ("options trials 2.5", "trials must be 1 to 200"),
                             ("options flow-unit ACF", "ACF is no flow unit; there are CFS, GPM, MGD, IMGD, "
-                             "AFD, LPS, LPM, MLD, CMS, CMH, CMD")):
+                             "AFD, LPS, LPM, MLD, CMS, CMH, CMD, L/s, L/min, m3/h, m3/d")):
             self.assertEqual(self.mistakes(start + line), [(3, words)])
         self.assertEqual(self.mistakes(""), [(1, "a sheet needs a node")])
         many = "".join("junction n%d elevation 0 ft\n" % k for k in range(65))
@@ -970,8 +973,8 @@ class TextForm(unittest.TestCase):
         for line, words in (
                 ("minimum 3 m", "pressures needs required"),
                 ("", "pressures needs minimum and required"),
-                ("minimum 3 required 4 m", "required is no unit for minimum; there are ft, m, psi"),
-                ("minimum 3 lps required 4 m", "lps is no unit for minimum; there are ft, m, psi"),
+                ("minimum 3 required 4 m", "required is no unit for minimum; there are ft, m, psi, bar, kPa"),
+                ("minimum 3 lps required 4 m", "lps is no unit for minimum; there are ft, m, psi, bar, kPa"),
                 ("minimum 3 m required", "the line ends where the figure of required is expected"),
                 ("minimum 3 m required 4", "the line ends where the unit of required is expected"),
                 ("minimum 3 m required nan m", "nan is no number, but the figure of required is expected"),

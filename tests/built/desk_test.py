@@ -122,6 +122,22 @@ class Made(unittest.TestCase):
         self.assertLess(used.ru_maxrss, 80000)
 
 
+class Texts(unittest.TestCase):
+    def test_a_text_is_solved_as_it_is(self):
+        for name in ("fixed-demands", "giving-way", "no-pressure"):
+            path = os.path.join("examples", "dry-week", name)
+            (sheet, text) = json.loads(desk("--json", path + ".sheet", path + ".txt")[1])
+            self.assertEqual([node["head_ft_bits"] for node in text["nodes"]], [node["head_ft_bits"] for node in sheet["nodes"]])
+            self.assertTrue(all(node["name"] for node in text["nodes"]))
+
+    def test_a_text_under_a_sheets_name(self):
+        with tempfile.NamedTemporaryFile(suffix=".sheet") as file:
+            file.write(b"reservoir pond head 9 ft\n")
+            file.flush()
+            status, out = desk(file.name)
+        self.assertEqual((status, out.splitlines()[0]), (1, "refused, number 1 at place 0: the file is text and not a sheet"))
+
+
 class Desk(unittest.TestCase):
     def test_every_example_is_expected(self):
         top = os.path.join(TOP, "examples")
