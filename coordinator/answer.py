@@ -1,5 +1,5 @@
 """A sheet, the verdict and the listing that the proved program gave for it, and what a desk must know of them."""
-from . import drawn, network, refusals, sheet_bounds, verdict
+from . import drawn, network, notes, refusals, sheet_bounds, verdict
 from .limits import USUAL
 from .listings import Listing
 from .sheet_format import LINK_KINDS
@@ -8,7 +8,7 @@ from .words import (Units, a_node, counted, ends, flow_words, give_names, link_w
 # exit statuses
 CLEAN, REFUSED, BAD_USE, DOUBTFUL = 0, 1, 2, 3
 GRAVEST_FIRST = (BAD_USE, DOUBTFUL, REFUSED, CLEAN)
-NOT_FOR_SALE = "these pressures must not be sold on"
+FOR_SALE, NOT_FOR_SALE = "these pressures may be sold", "these pressures must not be sold on"
 
 
 def gravest(statuses):
@@ -42,6 +42,7 @@ class Answer:
         self.pd = next((fields for _, mark, fields in found if mark == b"PD"), None)
         self.hydrants = self.find_hydrants() if self.solved and self.pd else {}
         self.low = verdict.low_nodes(self) if self.solved else []
+        self.notes = notes.notes(self)
 
     def find_undetermined(self):
         """The verdict says whether there are any, save where it is about a repair."""
@@ -102,7 +103,13 @@ class Answer:
             return "refused, number %d at place %d: %s" % (
                 self.refusal.number, self.refusal.place, self.refusal.why)
         line = "solved in " + counted(self.listing.trials, "trial") + self.short_words()
-        return line if self.may_be_sold else "%s, but %s; %s" % (line, "; ".join(self.doubts()), NOT_FOR_SALE)
+        return "%s; %s" % ((line, FOR_SALE) if self.may_be_sold else
+                           ("%s, but %s" % (line, "; ".join(self.doubts())), NOT_FOR_SALE))
+
+    @property
+    def mend(self):
+        """What to do next, or None where nothing is to be mended."""
+        return None if self.may_be_sold else verdict.mend(self) if self.solved else self.refusal.mend
 
     def doubts(self):
         found = self.repair_words() + self.undetermined_words() + self.unfit_words()

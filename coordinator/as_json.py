@@ -1,8 +1,9 @@
 """An answer for a program; docs/DESK.md says what each key holds."""
 import json
 
+from . import notes
 from .answer import Answer, entry_words
-from .network import in_service
+from .network import HOLDS, in_service
 from .sheet_format import LINK_KINDS, NODE_KINDS, STATUSES, bits
 
 
@@ -31,8 +32,8 @@ def refusal(answer):
 def node(answer, i):
     fields, units = answer.nodes[i], answer.units
     head, demand, pressure = answer.listing.heads[i], answer.listing.demands[i], answer.pressure(i)
-    found = {"node": i, "name": fields.get("name"), "kind": NODE_KINDS[fields["kind"]], "in_service": not fields["disabled"],
-             "grounded": i in answer.grounded, "undetermined": i in answer.undetermined}
+    found = {"node": i, "name": fields.get("name"), "kind": NODE_KINDS[fields["kind"]],
+             "in_service": not fields["disabled"], "grounded": i in answer.grounded, "undetermined": i in answer.undetermined}
     found.update(numbers(elevation_ft=fields["elevation"], head_ft=head, pressure_ft=pressure, demand_cfs=demand,
                          pressure=pressure * units.per_foot, demand=demand * units.per_cfs))
     found.update(hydrant(answer.hydrants[i], units) if i in answer.hydrants else {})
@@ -57,10 +58,16 @@ def link(answer, i):
     fields, flow, status = answer.links[i], answer.listing.flows[i], answer.listing.statuses[i]
     names = fields.get("names", (None, None))
     found = {"link": i, "kind": LINK_KINDS[fields["kind"]], "start": fields["start"], "end": fields["end"],
-             "start_name": names[0], "end_name": names[1], "in_service": in_service(fields, answer.nodes), "freed": i in answer.freed,
+             "start_name": names[0], "end_name": names[1], "in_service": in_service(fields, answer.nodes),
+             "freed": i in answer.freed, "check_valve_holds": notes.check_holds(answer, i),
              "status": STATUSES[status], "status_in_sheet": STATUSES[fields["status"]],
              "changed": status != fields["status"]}
     found.update(numbers(flow_cfs=flow, flow=flow * answer.units.per_cfs))
+    if LINK_KINDS[fields["kind"]] in HOLDS:
+        short = notes.lack(answer, i)
+        found.update(numbers(setting_ft=fields["setting"], setting_lack_ft=short,
+                             setting=fields["setting"] * answer.units.per_foot,
+                             setting_lack=short * answer.units.per_foot))
     return found
 
 
@@ -80,6 +87,7 @@ def answer_keys(answer):
     found = {
         "sheet": answer.name, "first_line": answer.first_line(), "exit_status": answer.exit_status,
         "solved": answer.solved, "may_be_sold": answer.may_be_sold, "error": None,
+        "mend": answer.mend, "notes": [note._asdict() for note in answer.notes],
         "verdict": {"number": answer.verdict, "place": answer.place},
         "limits": numbers(lowest_pressure_ft=answer.limits.lowest, head_ft=answer.limits.head,
                           flow_cfs=answer.limits.flow),

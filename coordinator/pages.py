@@ -1,10 +1,11 @@
 """An answer for a person."""
+from . import notes
 from .answer import record_words
 from .drawn import pressure_range
 from .files import shown
-from .network import JUNCTION, in_service
+from .network import in_service, serves
 from .sheet_format import LINK_KINDS, NODE_KINDS, STATUSES
-from .words import NAME, fixed, flow_figures, flow_words, pressure_words, quoted, small
+from .words import NAME, fixed, flow_figure, flow_words, pressure_words, quoted, small_flow
 
 
 def table(header, rows):
@@ -22,14 +23,12 @@ def node_marks(answer, number):
     node = answer.nodes[number]
     marks = [("grounded", number in answer.grounded),
              ("head undetermined", number in answer.undetermined),
-             ("pressure below 0", node["kind"] == JUNCTION and answer.pressure(number) < 0),
+             ("pressure below 0", serves(node) and answer.pressure(number) < 0),
              ("pressure too low", number in answer.low and answer.pressure(number) >= 0),
-             ("out of service", node["disabled"])]
+             ("out of service", node["disabled"]),
+             ("demand not served", notes.not_served(answer, number)),
+             ("water outside its levels", notes.level_off(answer, number))]
     return ", ".join(mark for mark, there in marks if there)
-
-
-def flow_names(units, word):
-    return [word + " cfs"] + ([word + " " + units.flow] if units.flow != "CFS" else [])
 
 
 def labels(answer, number):
@@ -44,24 +43,24 @@ def label_names(answer):
 def node_row(answer, number):
     units, listing = answer.units, answer.listing
     head, pressure = listing.heads[number], answer.pressure(number)
-    heads = [head] + ([head * units.per_foot] if units.metric else [])
+    # feet besides psi, where the sheet has feet
+    heights = [head * units.height_per_foot, pressure * units.per_foot] + ([] if units.metric else [pressure])
     return (labels(answer, number) + [NODE_KINDS[answer.nodes[number]["kind"]]]
-            + [fixed(x, 2) for x in heads + [pressure, pressure * units.per_foot]]
-            + flow_figures(units, listing.demands[number]) + [node_marks(answer, number)])
+            + [fixed(x, 2) for x in heights]
+            + [flow_figure(units, listing.demands[number]), node_marks(answer, number)])
 
 
 def nodes(answer):
     units = answer.units
-    header = (label_names(answer) + ["<kind", "head ft"] + (["head m"] if units.metric else [])
-              + ["pressure ft", "pressure " + units.pressure]
-              + flow_names(units, "drawn" if answer.pd else "demand") + ["<"])
+    header = (label_names(answer) + ["<kind", "head " + units.height, "pressure " + units.pressure]
+              + ([] if units.metric else ["pressure ft"])
+              + ["%s %s" % ("drawn" if answer.pd else "demand", units.flow_name), "<"])
     return table(header, [node_row(answer, i) for i in range(len(answer.nodes))])
 
 
 def hydrant_row(answer, hydrant):
     return (labels(answer, hydrant.number)
-            + [figure for flow in (hydrant.asked, hydrant.drawn, hydrant.lack)
-               for figure in flow_figures(answer.units, flow)]
+            + [flow_figure(answer.units, flow) for flow in (hydrant.asked, hydrant.drawn, hydrant.lack)]
             + [fixed(100.0 * hydrant.lack / hydrant.asked, 1), "" if hydrant.fits else unfit_mark(answer, hydrant)])
 
 
@@ -76,7 +75,7 @@ def hydrants(answer):
     least = answer.pd["minimum"]
     yield "  no water at a pressure of %s or below, all that is asked from %s on" % tuple(
         pressure_words(answer.units, feet) for feet in (least, least + pressure_range(answer.pd)))
-    header = label_names(answer) + [name for word in ("asked", "drawn", "lacks") for name in flow_names(answer.units, word)]
+    header = label_names(answer) + ["%s %s" % (word, answer.units.flow_name) for word in ("asked", "drawn", "lacks")]
     yield from table(header + ["lacks %", "<"], [hydrant_row(answer, h) for h in answer.hydrants.values()])
 
 
@@ -85,29 +84,38 @@ def link_marks(answer, number):
     was = link["status"]
     marks = [("changed, was " + STATUSES[was], was != answer.listing.statuses[number]),
              ("freed", number in answer.freed),
+             ("carries water", notes.carries(answer, number)),
+             ("check valve holds", notes.check_holds(answer, number)),
+             (short_mark(answer, number), notes.lack(answer, number)),
              ("out of service", not in_service(link, answer.nodes))]
     return ", ".join(mark for mark, there in marks if there)
+
+
+def short_mark(answer, number):
+    return "lacks %s of its setting" % pressure_words(answer.units, notes.lack(answer, number))
 
 
 def link_row(answer, number):
     link, listing = answer.links[number], answer.listing
     return ([str(number), LINK_KINDS[link["kind"]]]
             + [labels(answer, link[end])[-1] for end in ("start", "end")]
-            + flow_figures(answer.units, listing.flows[number])
-            + [STATUSES[listing.statuses[number]], link_marks(answer, number)])
+            + [flow_figure(answer.units, listing.flows[number]), STATUSES[listing.statuses[number]],
+               link_marks(answer, number)])
 
 
 def links(answer):
     ends = ["<start", "<end"] if answer.names else ["start", "end"]
-    header = ["link", "<kind"] + ends + flow_names(answer.units, "flow") + ["<status", "<"]
+    header = ["link", "<kind"] + ends + ["flow " + answer.units.flow_name, "<status", "<"]
     return table(header, [link_row(answer, i) for i in range(len(answer.links))])
 
 
 def balance(answer):
     demand, supply, error = answer.listing.balance
-    yield "  %s %s cfs, supply %s cfs, error %s cfs%s" % (
-        "asked" if answer.pd else "demand", fixed(demand, 4), fixed(supply, 4), small(error),
-        ", of which the hydrants lack %s cfs" % fixed(sum(h.lack for h in answer.short), 4) if answer.short else "")
+    units = answer.units
+    yield "  %s %s, supply %s, error %s%s" % (
+        "asked" if answer.pd else "demand", flow_words(units, demand), flow_words(units, supply),
+        small_flow(units, error),
+        ", of which the hydrants lack " + flow_words(units, sum(h.lack for h in answer.short)) if answer.short else "")
 
 
 def record(answer):
@@ -130,7 +138,9 @@ def refused(answer):
 
 
 def solved(answer):
-    return (section("Nodes", nodes(answer))
+    return (([] if answer.mend is None else ["  mend    " + answer.mend])
+            + ["  note    " + note.words for note in answer.notes]
+            + section("Nodes", nodes(answer))
             + section("Hydrants", hydrants(answer))
             + (section("Links", links(answer)) if answer.links else [])
             + section("Balance", balance(answer))

@@ -6,13 +6,14 @@ import os
 import textwrap
 from html import escape
 
+from . import notes
 from .network import HOLDS, along, in_service
 from .sheet_format import LINK_KINDS, NODE_KINDS
-from .words import METRES_PER_FOOT, ends, fixed, flow_figures, quoted
+from .words import ends, fixed, flow_figure, quoted
 
 COLOURS = {"junction": "#3b78b5", "reservoir": "#1f8f82", "tank": "#7a9a2e"}
 NEGATIVE, DOUBT, GROUND, INK = "#8e44ad", "#c0392b", "#7a5a3a", "#222"
-LEFT, RIGHT, PLOT_HEIGHT, BRACKET = 76, 66, 320, 22
+LEFT, RIGHT, PLOT_HEIGHT, BRACKET = 76, 24, 320, 22
 UP, DOWN = "\u2191", "\u2193"
 # a gauge, the line of figures under it, and the room that both take
 GAUGE, GAUGE_LINE, GAUGE_ROOM = 34, 14, 58
@@ -92,10 +93,20 @@ class Frame:
 def span(answer):
     """The heights shown: all elevations and every head that something determines, with some air."""
     sure = [h for i, h in enumerate(answer.listing.heads) if i not in answer.undetermined]
-    heights = [node["elevation"] for node in answer.nodes] + (sure or answer.listing.heads)
+    heights = [node["elevation"] for node in answer.nodes] + (sure or answer.listing.heads) + missed_heads(answer)
     low, high = min(heights), max(heights)
     air = 0.08 * (high - low) or 1.0
     return low - (air if low < 0 else min(air, low) if low > 0 else 0.0), high + 1.6 * air
+
+
+def missed_heads(answer):
+    """Those that a regulator is set to hold and cannot reach."""
+    found = []
+    for number, link in enumerate(answer.links):
+        if notes.lack(answer, number):
+            node = link[HOLDS[LINK_KINDS[link["kind"]]]]
+            found.append(link["setting"] + answer.nodes[node]["elevation"])
+    return found
 
 
 def label(answer, node):
@@ -139,19 +150,28 @@ def bar(answer, frame, node):
 
 
 def set_heads(answer, frame):
-    """(node, head) of what each PRV and PSV in service is set to hold, where the picture reaches it."""
-    for link in answer.links:
+    """(link, node, head) of what each PRV and PSV in service is set to hold, where the picture reaches it."""
+    for number, link in enumerate(answer.links):
         side = HOLDS.get(LINK_KINDS[link["kind"]])
         if side and in_service(link, answer.nodes):
             node = link[side]
             head = link["setting"] + answer.nodes[node]["elevation"]
             if not frame.outside(head):
-                yield node, head
+                yield number, node, head
 
 
-def set_mark(x1, x2, y):
+def set_mark(x1, x2, y, colour=INK):
     """Dashes on white, to be seen on a bar and beside it."""
-    return line(x1, y, x2, y, "white", 4) + line(x1, y, x2, y, INK, 2, "5 3")
+    return line(x1, y, x2, y, "white", 4) + line(x1, y, x2, y, colour, 2, "5 3")
+
+
+def set_marks(answer, frame):
+    """What regulators are set to hold; red, with what is lacking, where one cannot."""
+    for number, node, head in set_heads(answer, frame):
+        short, x, y = notes.lack(answer, number), frame.x(node), frame.y(head)
+        yield set_mark(x - frame.slot / 2, x + frame.slot / 2, y, DOUBT if short else INK)
+        if short:
+            yield text(x, y - 5, "-" + fixed(short * answer.units.per_foot, 1), "d", "middle")
 
 
 def bracket(answer, frame, number, level):
@@ -173,7 +193,7 @@ def gauge(answer, frame, hydrant):
     yield box(x - wide / 2, y, wide, GAUGE, LACKED, "none" if hydrant.fits else DOUBT)
     yield box(x - wide / 2, y + GAUGE - full, wide, full, DRAWN)
     if hydrant.lack:
-        figure = flow_figures(answer.units, hydrant.lack)[-1]
+        figure = flow_figure(answer.units, hydrant.lack)
         if frame.slot >= 44:
             yield text(x, y + GAUGE + GAUGE_LINE, figure, "" if hydrant.fits else "d", "middle")
         else:
@@ -181,21 +201,14 @@ def gauge(answer, frame, hydrant):
 
 
 def axes(answer, frame):
-    right = frame.width - RIGHT
-    for height in ticks(frame.low, frame.high):
-        y = frame.y(height)
+    right, per = frame.width - RIGHT, answer.units.height_per_foot
+    for height in ticks(frame.low * per, frame.high * per):
+        y = frame.y(height / per)
         yield line(LEFT, y, right, y, "#ddd")
         yield text(LEFT - 8, y + 4, tick_words(height), anchor="end")
-    if answer.units.metric:
-        for height in ticks(frame.low * METRES_PER_FOOT, frame.high * METRES_PER_FOOT):
-            y = frame.y(height / METRES_PER_FOOT)
-            yield line(right, y, right + 5, y, INK)
-            yield text(right + 9, y + 4, tick_words(height))
-        yield text(frame.width - 14, (frame.top + frame.bottom) / 2, "elevation and head, m", anchor="middle", turn=90)
-        yield line(right, frame.top, right, frame.bottom, INK)
     yield line(LEFT, frame.top, LEFT, frame.bottom, INK)
     yield line(LEFT, frame.bottom, right, frame.bottom, INK)
-    yield text(20, (frame.top + frame.bottom) / 2, "elevation and head, ft", anchor="middle", turn=-90)
+    yield text(20, (frame.top + frame.bottom) / 2, "elevation and head, " + answer.units.height, anchor="middle", turn=-90)
     yield text((LEFT + right) / 2, frame.under + 36,
                "node, in the order of a walk along the links from the highest source", anchor="middle")
 
@@ -216,6 +229,9 @@ def legend_items(answer, frame):
     yield (lambda x, y: line(x, y - 4, x + 16, y - 4, GROUND, 2.4)), "elevation"
     if any(set_heads(answer, frame)):
         yield (lambda x, y: set_mark(x, x + 16, y - 4)), "head that a PRV or PSV is set to hold"
+    if any(notes.lack(answer, number) for number in range(len(answer.links))):
+        yield ((lambda x, y: set_mark(x, x + 16, y - 4, DOUBT)),
+               "one that it cannot reach; the figure is what it lacks, in " + answer.units.pressure)
     if answer.undetermined:
         yield swatch("url(#hatch)", "#b86a00", "4 3"), "? head that nothing determines"
     if answer.grounded:
@@ -282,8 +298,7 @@ def picture(answer):
     drawn += axes(answer, frame)
     for node in frame.order:
         drawn += bar(answer, frame, node)
-    for node, head in set_heads(answer, frame):
-        drawn.append(set_mark(frame.x(node) - frame.slot / 2, frame.x(node) + frame.slot / 2, frame.y(head)))
+    drawn += set_marks(answer, frame)
     for level, number in enumerate(answer.freed):
         drawn += bracket(answer, frame, number, level)
     for hydrant in answer.hydrants.values():

@@ -2,7 +2,8 @@
 decides; figures are worked out here only to be told."""
 from .network import HOLDS, is_hydrant, serves
 from .sheet_format import LINK_KINDS
-from .words import apart, counted, flow_words, heads_words, link_words, node_words, pressure_words, small_flow
+from .words import (apart, counted, flow_words, heads_words, link_words, node_words, pressure_words, small_flow,
+                    small_height)
 
 SOLD, REFUSED, REPAIRED, UNDETERMINED, UNBALANCED, MOVED, NOT_HELD, NOT_DRAWN, TOO_LOW = range(9)
 
@@ -31,8 +32,9 @@ def not_held(answer, number):
     link = answer.links[number]
     node = link[HOLDS[LINK_KINDS[link["kind"]]]]
     gap = answer.listing.heads[node] - (link["setting"] + answer.nodes[node]["elevation"])
-    return "the head of %s is %.2g ft from the one that %s is set to hold, and %.2g ft is allowed" % (
-        answer.called(node), abs(gap), link_words(number, link), answer.limits.head)
+    return "the head of %s is %s from the one that %s is set to hold, and %s is allowed" % (
+        answer.called(node), small_height(answer.units, abs(gap)), link_words(number, link),
+        small_height(answer.units, answer.limits.head))
 
 
 def not_drawn(answer, node):
@@ -52,7 +54,7 @@ def low_nodes(answer):
 
 def too_low(answer, node):
     pressure, lowest = answer.pressure(node), lowest_allowed(answer, node)
-    digits = apart(pressure, lowest)
+    digits = apart(*(feet * answer.units.per_foot for feet in (pressure, lowest)))
     more = len([i for i in low_nodes(answer) if i != node])
     return "%s has %s, the lowest allowed is %s%s" % (
         answer.called(node, "hydrant" if is_hydrant(answer.nodes[node]) else "node"),
@@ -61,6 +63,24 @@ def too_low(answer, node):
 
 
 TOLD = {UNBALANCED: unbalanced, MOVED: moved, NOT_HELD: not_held, NOT_DRAWN: not_drawn, TOO_LOW: too_low}
+
+
+FINER = "set a finer accuracy in its options and solve it again"
+MEND = {UNDETERMINED: "join these nodes to a source by a link that is open", UNBALANCED: FINER, MOVED: FINER, NOT_HELD: FINER,
+        NOT_DRAWN: "give the pipes other first flows, or set a finer accuracy, and solve it again",
+        TOO_LOW: "let less water be drawn in this hour, or none at this place"}
+
+
+def mend(answer):
+    """What to do next about a verdict of 2 to 8."""
+    if answer.verdict != REPAIRED:
+        return MEND[answer.verdict]
+    found = []
+    if answer.freed:
+        found.append("look at the setting of the valve that was freed and at what else holds the head there")
+    if answer.grounded:
+        found.append("join the node that was tied to a source by a link that is open")
+    return "; ".join(found)
 
 
 def words(answer):

@@ -11,13 +11,18 @@ METRIC = UNITS[UNITS.index("LPS"):]
 
 
 class Units:
-    """A sheet's flow unit, and the pressure unit that goes with it."""
+    """A sheet's flow unit, and the units of pressures and of heights that go with it."""
 
     def __init__(self, code):
         self.flow, self.per_cfs = UNITS[code], PER_CFS[code]
+        self.flow_name = "cfs" if self.flow == "CFS" else self.flow
+        # enough to tell a hundredth of a litre a second
+        self.flow_digits = 2 if self.per_cfs > 10 else 4 if self.per_cfs > 0.1 else 5
         self.metric = self.flow in METRIC
         self.pressure = "m" if self.metric else "psi"
         self.per_foot = METRES_PER_FOOT if self.metric else PSI_PER_FOOT
+        self.height = "m" if self.metric else "ft"
+        self.height_per_foot = METRES_PER_FOOT if self.metric else 1.0
 
 
 def escaped(text):
@@ -44,30 +49,35 @@ def small(x):
     return "0" if x == 0 else "%.2g" % x
 
 
-def flow_figures(units, x):
-    """A flow in cubic feet per second and, if that is another, in the sheet's unit."""
-    return [fixed(x, 4)] + ([fixed(x * units.per_cfs, 2)] if units.flow != "CFS" else [])
+def flow_figure(units, x):
+    """A flow in the sheet's unit."""
+    return fixed(x * units.per_cfs, units.flow_digits)
 
 
 def flow_words(units, *flows):
-    """`0.5000 cfs (14.16 LPS)`; of two flows `0.2000 of 0.5000 cfs (5.66 of 14.16 LPS)`."""
-    figures = [" of ".join(column) for column in zip(*(flow_figures(units, x) for x in flows))]
-    return figures[0] + " cfs" + (" (%s %s)" % (figures[1], units.flow) if figures[1:] else "")
+    """`14.16 LPS`; of two flows `5.66 of 14.16 LPS`."""
+    return "%s %s" % (" of ".join(flow_figure(units, x) for x in flows), units.flow_name)
 
 
 def small_flow(units, x):
     """A flow that is near zero when all is well."""
-    return "%s cfs" % small(x) + (" (%s %s)" % (small(x * units.per_cfs), units.flow) if units.flow != "CFS" else "")
+    return "%s %s" % (small(x * units.per_cfs), units.flow_name)
 
 
 def pressure_words(units, feet, digits=2):
-    return "%s ft (%s %s)" % (fixed(feet, digits), fixed(feet * units.per_foot, digits), units.pressure)
+    """`10.00 m`, or `4.33 psi (10.00 ft)` where the sheet has feet."""
+    found = "%s %s" % (fixed(feet * units.per_foot, digits), units.pressure)
+    return found if units.metric else "%s (%s ft)" % (found, fixed(feet, digits))
 
 
 def heads_words(units, *heads):
-    """`100.00 and 80.00 ft`, with a metric flow unit in metres too."""
-    metres = " (%s m)" % listed(fixed(x * METRES_PER_FOOT, 2) for x in heads) if units.metric else ""
-    return listed(fixed(x, 2) for x in heads) + " ft" + metres
+    """`100.00 and 80.00 ft`."""
+    return "%s %s" % (listed(fixed(x * units.height_per_foot, 2) for x in heads), units.height)
+
+
+def small_height(units, feet):
+    """A height that is near zero when all is well."""
+    return "%.2g %s" % (feet * units.height_per_foot, units.height)
 
 
 def apart(a, b):

@@ -38,6 +38,7 @@ BY_DATA = {case.data: text for case, text in zip(CASES, TEXTS)}
 BY_DATA[read("examples/refused.sheet")] = "A 3 168 0 0 0\n"
 DRY_WEEK = "examples/dry-week"
 NOT_FOR_SALE = "; these pressures must not be sold on"
+FOR_SALE = "; these pressures may be sold"
 
 
 @functools.lru_cache(maxsize=None)
@@ -109,8 +110,8 @@ class FirstLines(unittest.TestCase):
         self.assertEqual((answer(name).first_line(), answer(name).exit_status), (line, status))
 
     def test_solved_clean(self):
-        self.check("june-both-not-repaired", "solved in 8 trials", 0)
-        self.check("2-one-reservoir", "solved in 1 trial", 0)
+        self.check("june-both-not-repaired", "solved in 8 trials" + FOR_SALE, 0)
+        self.check("2-one-reservoir", "solved in 1 trial" + FOR_SALE, 0)
 
     def test_a_freed_valve(self):
         self.check("june-both-repaired", "solved in 13 trials, but with a repair: "
@@ -165,7 +166,7 @@ class Pages(unittest.TestCase):
 
     def test_pressure_is_head_less_elevation(self):
         page = pages.page(answer("june-both-not-repaired"), False)
-        self.assertRegex(page, r"\n +3  junction +35\.00 +30\.00 +13\.00 +0\.2500\n")
+        self.assertRegex(page, r"\n +3  junction +35\.00 +13\.00 +30\.00 +0\.2500\n")
 
     def test_a_metric_sheet_shows_metres_and_its_flow_unit(self):
         s = Sheet(unit="LPS")
@@ -175,8 +176,9 @@ class Pages(unittest.TestCase):
         text = "A 0 0 1 0 0\nT OK 0\nN 0 %016x %016x\nN 1 %016x %016x\nL 0 %016x 1\nB %016x %016x %016x\n" % tuple(
             map(bits, (100.0, 0.0, 90.0, 1.0, 1.0, 1.0, 1.0, 0.0)))
         page = pages.page(answer_to("x", s.encode(), text), False)
-        self.assertRegex(page, r"head ft +head m +pressure ft +pressure m +demand cfs +demand LPS")
-        self.assertRegex(page, r"\n +1  junction +90\.00 +27\.43 +80\.00 +24\.38 +1\.0000 +28\.32\n")
+        self.assertRegex(page, r"\n  node  kind +head m +pressure m +demand LPS\n")
+        self.assertRegex(page, r"\n +1  junction +27\.43 +24\.38 +28\.32\n")
+        self.assertNotRegex(page, r"\b(ft|cfs)\b")
 
     def test_a_changed_status_is_marked(self):
         page = pages.page(answer("june-both-repaired"), False)
@@ -258,11 +260,11 @@ class GivingWay(unittest.TestCase):
         self.assertEqual((found.first_line(), found.exit_status), (line, status))
 
     def test_first_lines(self):
-        self.check(row(64.0, 65.0), "solved in 3 trials; every hydrant gets what it asks", 0)
+        self.check(row(64.0, 65.0), "solved in 3 trials; every hydrant gets what it asks" + FOR_SALE, 0)
         self.check(row(64.0, 16.0), "solved in 3 trials; 1 hydrant gets less than it asks, worst node 2, which "
-                   "lacks 0.2500 of 0.5000 cfs", 0)
+                   "lacks 0.2500 of 0.5000 cfs" + FOR_SALE, 0)
         self.check(row(16.0, 0.0, 4.0, unit="LPS"), "solved in 3 trials; 3 hydrants get less than they ask, worst "
-                   "node 2, which lacks 0.5000 of 0.5000 cfs (14.16 of 14.16 LPS)", 0)
+                   "node 2, which lacks 14.16 of 14.16 LPS" + FOR_SALE, 0)
 
     def test_of_equal_lacks_the_lowest_number_is_the_worst(self):
         self.assertIn("2 hydrants get less than they ask, worst node 2,", row(70.0, 16.0, 16.0).first_line())
@@ -307,14 +309,12 @@ class GivingWay(unittest.TestCase):
 
     def test_the_page(self):
         page = pages.page(row(64.0, 16.0, unit="LPS"), False)
-        self.assertRegex(page, r"\n +node +kind .*pressure m +drawn cfs +drawn LPS\n")
-        self.assertIn("\nHydrants\n  no water at a pressure of 0.00 ft (0.00 m) or below, all that is asked from "
-                      "64.00 ft (19.51 m) on\n"
-                      "  node  asked cfs  asked LPS  drawn cfs  drawn LPS  lacks cfs  lacks LPS  lacks %\n"
-                      "     1     0.5000      14.16     0.5000      14.16     0.0000       0.00      0.0\n"
-                      "     2     0.5000      14.16     0.2500       7.08     0.2500       7.08     50.0\n\n", page)
-        self.assertIn("\nBalance\n  asked 1.0000 cfs, supply 0.7500 cfs, error 0.25 cfs, of which the hydrants lack "
-                      "0.2500 cfs\n", page)
+        self.assertRegex(page, r"\n +node +kind .*pressure m +drawn LPS\n")
+        self.assertIn("\nHydrants\n  no water at a pressure of 0.00 m or below, all that is asked from 19.51 m on\n"
+                      "  node  asked LPS  drawn LPS  lacks LPS  lacks %\n"
+                      "     1      14.16      14.16       0.00      0.0\n"
+                      "     2      14.16       7.08       7.08     50.0\n\n", page)
+        self.assertIn("\nBalance\n  asked 28.32 LPS, supply 21.24 LPS, error 7.1 LPS, of which the hydrants lack 7.08 LPS\n", page)
         self.assertIn("does not fit its pressure, which allows 0.0000 cfs\n", pages.page(row((-1.0, 0.5)), False))
 
     def test_the_json(self):
@@ -370,7 +370,7 @@ class GivingWay(unittest.TestCase):
         s = Sheet(pressures=(0.0, 64.0))
         s.reservoir()
         found = made(s, [100.0], [0.0])
-        self.check(found, "solved in 3 trials; every hydrant gets what it asks", 0)
+        self.check(found, "solved in 3 trials; every hydrant gets what it asks" + FOR_SALE, 0)
         self.assertIn("\nHydrants\n  no water at", everything(found))
 
 
@@ -393,43 +393,45 @@ class Verdicts(unittest.TestCase):
 
     def test_sold(self):
         found = two((0, 0))
-        self.assertEqual((found.first_line(), found.exit_status, found.may_be_sold), ("solved in 3 trials", 0, True))
+        self.assertEqual((found.first_line(), found.exit_status, found.may_be_sold), ("solved in 3 trials" + FOR_SALE, 0, True))
 
     def test_4_a_node_that_does_not_balance(self):
-        self.check(two((4, 1), flow=0.5), "at node 1 (junction) what flows in and what is taken differ by 0.25 cfs "
-                   "(7.1 LPS), and 0.001 cfs (0.028 LPS) is allowed")
+        self.check(two((4, 1), flow=0.5), "at node 1 (junction) what flows in and what is taken differ by 7.1 LPS, "
+                   "and 0.028 LPS is allowed")
 
     def test_5_a_link_that_does_not_keep_its_law(self):
-        self.check(two((5, 0)), "the flow of link 0 (pipe 0 -> 1), 0.2500 cfs (7.08 LPS), does not go with the heads "
-                   "at its ends, 100.00 and 60.00 ft (30.48 and 18.29 m)")
+        self.check(two((5, 0)), "the flow of link 0 (pipe 0 -> 1), 7.08 LPS, does not go with the heads "
+                   "at its ends, 30.48 and 18.29 m")
         self.check(two((5, 0), unit="CFS"), "the flow of link 0 (pipe 0 -> 1), 0.2500 cfs, does not go with the heads "
                    "at its ends, 100.00 and 60.00 ft")
 
     def test_6_a_head_that_is_not_held(self):
-        self.check(two((6, 0), kind="PRV", setting=49.5), "the head of node 1 is 0.5 ft from the one that link 0 "
+        self.check(two((6, 0), kind="PRV", setting=49.5), "the head of node 1 is 0.15 m from the one that link 0 "
+                   "(PRV 0 -> 1) is set to hold, and 0.03 m is allowed")
+        self.check(two((6, 0), kind="PRV", setting=49.5, unit="GPM"), "the head of node 1 is 0.5 ft from the one that link 0 "
                    "(PRV 0 -> 1) is set to hold, and 0.1 ft is allowed")
 
     def test_8_a_pressure_that_is_too_low(self):
         least = USUAL._replace(lowest=10.0 / 0.3048)
         low = 10.0 + 1.2 / 0.3048
         self.check(two((8, 1), (100.0, low), limits=least),
-                   "hydrant 1 has 3.94 ft (1.20 m), the lowest allowed is 32.81 ft (10.00 m)")
+                   "hydrant 1 has 1.20 m, the lowest allowed is 10.00 m")
         self.check(two((8, 1), (100.0, 10.0 - 39.0 / 0.3048)),
-                   "hydrant 1 has -127.95 ft (-39.00 m), the lowest allowed is 0.00 ft (0.00 m)")
+                   "hydrant 1 has -39.00 m, the lowest allowed is 0.00 m")
         self.check(two((8, 1), (100.0, 9.0), demand=0.0, limits=least),
-                   "node 1 has -1.00 ft (-0.30 m), the lowest allowed is 0.00 ft (0.00 m)")
+                   "node 1 has -0.30 m, the lowest allowed is 0.00 m")
         # a lowest pressure under 0 lets no pressure under 0 pass
         self.check(two((8, 1), (100.0, 9.0), limits=USUAL._replace(lowest=-5.0)),
-                   "hydrant 1 has -1.00 ft (-0.30 m), the lowest allowed is 0.00 ft (0.00 m)")
+                   "hydrant 1 has -0.30 m, the lowest allowed is 0.00 m")
 
     def test_8_a_pressure_just_below(self):
         found = two((8, 1), (100.0, 59.99999), limits=USUAL._replace(lowest=50.0))
-        self.check(found, "hydrant 1 has 49.99999 ft (15.24000 m), the lowest allowed is 50.00000 ft (15.24000 m)")
+        self.check(found, "hydrant 1 has 15.239997 m, the lowest allowed is 15.240000 m")
 
     def test_8_several(self):
         found = row(16.0, 4.0, 1.0, limits=USUAL._replace(lowest=10.0))
         found.verdict, found.place = 8, 2
-        self.assertIn(", but hydrant 2 has 4.00 ft (1.73 psi), the lowest allowed is 10.00 ft (4.33 psi), and 1 more node "
+        self.assertIn(", but hydrant 2 has 1.73 psi (4.00 ft), the lowest allowed is 4.33 psi (10.00 ft), and 1 more node "
                       "is too low;", found.first_line())
         page = pages.page(found, False)
         self.assertEqual(page.count("pressure too low\n"), 2)
@@ -509,8 +511,8 @@ class LimitsGiven(unittest.TestCase):
     def test_a_lowest_pressure_makes_the_difference(self):
         self.assertEqual(desk("--least", "29.9ft", example("june-unrepaired"))[0], 0)
         status, out, _ = desk("--least", "30.1ft", example("june-unrepaired"))
-        self.assertEqual((status, out.splitlines()[0]), (3, "solved in 8 trials, but hydrant 3 has 30.00 ft (13.00 psi), "
-                         "the lowest allowed is 30.10 ft (13.04 psi)" + NOT_FOR_SALE))
+        self.assertEqual((status, out.splitlines()[0]), (3, "solved in 8 trials, but hydrant 3 has 13.00 psi (30.00 ft), "
+                         "the lowest allowed is 13.04 psi (30.10 ft)" + NOT_FOR_SALE))
 
     def test_the_usual_ones_in_the_papers(self):
         self.assertTrue("%g ft and %g cfs" % USUAL[1:] in read("docs/DESK.md").decode())
@@ -596,11 +598,11 @@ class Unsettled(unittest.TestCase):
             self.words(refused, self.stopped(30, [0.5, 0.25, 0.1]), self.stopped(9, [0.5005, 0.5, 0.25], (1, 1, 1)),
                        self.stopped(1, [9.0, 9.0, 9.0])),
             "; between trial 9 and trial 30 link 1 (PRV 1 -> 2) went from Open to Active and the flow of links 1 and 2 "
-            "moved, most that of link 1 (PRV 1 -> 2), by 0.25 cfs (7.1 LPS)")
+            "moved, most that of link 1 (PRV 1 -> 2), by 7.1 LPS")
         self.assertEqual(
             self.words(self.stopped(30, [0.5, 0.25, 0.1]), self.stopped(9, [0.5 - 2.0 ** -20, 0.25 + 2.0 ** -22, 0.1])),
             "; between trial 9 and trial 30 the flow of links 0 and 1 moved, most that of link 0 (pipe 0 -> 1), by "
-            "9.5e-07 cfs (2.7e-05 LPS)")
+            "2.7e-05 LPS")
         self.assertEqual(self.words(self.stopped(30, [0.5, 0.25, 0.1]), self.stopped(9, [0.5, 0.25, 0.1])), self.MAYBE)
 
     def test_one_stop(self):
@@ -1026,7 +1028,7 @@ class Command(unittest.TestCase):
     def test_several_sheets_are_named_and_one_that_cannot_be_read_counts(self):
         status, out, err = desk(example("june-unrepaired"), self.path("none"), example("refused"))
         self.assertEqual(status, 2)
-        self.assertIn("june-unrepaired.sheet: solved in 8 trials\n", out)
+        self.assertIn("june-unrepaired.sheet: solved in 8 trials; these pressures may be sold\n", out)
         self.assertIn("refused.sheet: refused, number 3 at place 168", out)
         self.assertEqual(err, "desk: %s cannot be read: No such file or directory\n" % self.path("none"))
 

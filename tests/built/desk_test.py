@@ -16,11 +16,12 @@ import sheets  # noqa: E402
 from coordinator.sheet_format import Sheet  # noqa: E402
 
 NOT_FOR_SALE = "; these pressures must not be sold on"
+FOR_SALE = "; these pressures may be sold"
 # first line and exit status of each example
 EXPECTED = {
-    "dry-week/fixed-demands": ("solved in 4 trials", 0),
-    "dry-week/giving-way": ("solved in 5 trials; 4 hydrants get less than they ask, worst node 4, which lacks 0.1299 "
-                            "of 0.2472 cfs (3.68 of 7.00 LPS)", 0),
+    "dry-week/fixed-demands": ("solved in 4 trials" + FOR_SALE, 0),
+    "dry-week/giving-way": ("solved in 5 trials; 4 hydrants get less than they ask, worst node 4, which lacks 3.68 of "
+                            "7.00 LPS" + FOR_SALE, 0),
     "dry-week/no-pressure": ("solved in 1 trial, but what 1 hydrant draws does not fit the pressure there, worst node "
                              "1, which draws 1.0000 cfs where the pressure allows 0.0000 cfs" + NOT_FOR_SALE, 3),
     "document01": ("solved in 2 trials, but with a repair: node 1 was tied to a reservoir that is not there; "
@@ -28,9 +29,9 @@ EXPECTED = {
     "june": ("solved in 13 trials, but with a repair: the PRV at link 2 (2 -> 3) was freed" + NOT_FOR_SALE, 3),
     "june-undetermined": ("solved in 2 trials, but nothing determines the heads of nodes 1 and 2"
                           + NOT_FOR_SALE, 3),
-    "june-unrepaired": ("solved in 8 trials", 0),
-    "looped": ("solved in 5 trials", 0),
-    "night": ("solved in 7 trials", 0),
+    "june-unrepaired": ("solved in 8 trials" + FOR_SALE, 0),
+    "looped": ("solved in 5 trials" + FOR_SALE, 0),
+    "night": ("solved in 7 trials" + FOR_SALE, 0),
     "refused": ("refused, number 3 at place 168: link 1 (pipe 0 -> 7): end is 7 but must be the number of a "
                 "node, 0 to 1", 1),
 }
@@ -72,7 +73,7 @@ class Made(unittest.TestCase):
         for metres in (37.85, 1e6):
             line, status, verdict = self.first(hill(metres))
             self.assertEqual((status, verdict), (3, {"number": 8, "place": 1}))
-            self.assertTrue(line.endswith("the lowest allowed is 0.00 ft (0.00 m)" + NOT_FOR_SALE), line)
+            self.assertTrue(line.endswith("the lowest allowed is 0.00 m" + NOT_FOR_SALE), line)
         self.assertIn(" but hydrant 1 has -", line)
 
     def test_a_lowest_pressure(self):
