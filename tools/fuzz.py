@@ -12,7 +12,7 @@ import time
 import oracle
 import product  # noqa: F401
 import sheets
-from coordinator import programs
+from coordinator import building, programs
 from coordinator.sheet_format import BYTES, Dice
 
 BATCH = 300
@@ -70,8 +70,9 @@ def main(words):
     if status:
         sys.exit(said)
     try:
+        building.have("replay")
         print("seed %d: %d sheets, no difference" % (seed, run(int(words[0]), seed)))
-    except (OSError, ValueError, subprocess.CalledProcessError) as error:
+    except (OSError, ValueError, building.NotToBeHad, subprocess.CalledProcessError) as error:
         sys.exit("fuzz.py: %s" % error)
 
 
