@@ -139,6 +139,8 @@ def alone():
 
 
 def build(name, why):
+    if programs.is_installed():
+        raise NotToBeHad("the program `%s` is not installed beside the desk: install it anew" % name)
     if shutil.which("rt") is None:
         raise NotToBeHad("the program `%s` %s, and the Rattle kit's command `rt`, which builds it, is not on the path "
                          "(README.md says what is needed)" % (name, why))
@@ -146,7 +148,7 @@ def build(name, why):
         with alone() as lock:
             if is_ready(name):
                 return
-            complain("the program `%s` %s: proving and building it (from nothing this takes about ten minutes)" % (name, why))
+            complain("the program `%s` %s: proving and building it (from nothing about ten minutes)" % (name, why))
             status, said = check(name, lock)
             if status or not is_there(name):
                 raise NotToBeHad("rt check %s did not build the program:\n%s" % (

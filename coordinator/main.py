@@ -3,7 +3,7 @@ import argparse
 import os
 import traceback
 
-from . import answering, asking, files, limits, schemes, streams, text_of_sheet
+from . import VERSION, answering, asking, files, limits, schemes, streams, text_of_sheet
 from .answer import BAD_USE, CLEAN, gravest
 from .answering import tell
 from .files import BadUse
@@ -11,16 +11,32 @@ from .sheet_format import shown
 from .streams import OutputLost, complain, put
 from .words import quoted
 
-DESCRIPTION = ("Solves network sheets by the proved program and tells a person or a program what came out and "
-               "whether it may be sold.")
-EPILOG = """exit status:
+DESCRIPTION = ("Solves schemes by the proved program and tells a person or a program what came out and whether it may be "
+               "sold.")
+EPILOG = """A scheme is a network sheet or its text form with names: a file that ends in .sheet is a sheet, one that ends in .txt a
+text, and else what stands in it decides. It has at most 64 nodes and 128 links, and no pumps.
+
+units:
+  pressures  ft m psi bar kPa
+  flows      CFS GPM MGD IMGD AFD LPS LPM MLD CMS CMH CMD L/s L/min m3/h m3/d
+
+examples:
+  desk scheme.txt                              a page
+  desk --least 10m --plot out.svg scheme.txt   no hydrant below 10 m; a picture besides
+  desk --json *.sheet                          one JSON list
+  desk --sheet scheme.txt -o scheme.sheet      the text form as a sheet
+  desk --text scheme.sheet                     and back
+
+exit status:
   0  every sheet was solved, and the proved verdict is that its pressures may be sold
   1  a sheet was refused by the solver; that is an answer, and the first line says why
-  2  bad use: wrong arguments, a file that cannot be read or is empty, no program to ask
+  2  bad use: wrong arguments, a file that cannot be read, written or is empty, a text with mistakes, no program to
+     ask, an interruption, standard output that takes no more
   3  a sheet was solved, but its pressures must not be sold on; the first line says why
   of several sheets the gravest counts: 2, then 3, then 1
 
-docs/DESK.md says what the output means, docs/SHEETS.md how to write a sheet by hand."""
+DESK.md says what the output means, SHEETS.md how to write a scheme by hand; both are in docs/, or, installed, in
+share/doc/ndurabeew."""
 
 
 class Parser(argparse.ArgumentParser):
@@ -34,8 +50,8 @@ def parser():
                formatter_class=argparse.RawDescriptionHelpFormatter)
     p.add_argument("files", nargs="*", metavar="SCHEME", help="a network sheet, or a scheme in the text form; - reads "
                    "standard input")
-    p.add_argument("--json", action="store_true", help="print one JSON list, an entry a sheet")
-    p.add_argument("--plot", metavar="FILE.svg", help="also draw the pressures; with several sheets each has "
+    p.add_argument("--json", action="store_true", help="print one JSON list, an entry a file")
+    p.add_argument("--plot", metavar="FILE.svg", help="also draw the pressures; with several schemes each has "
                    "its own picture, FILE-1-NAME.svg and so on")
     p.add_argument("--least", metavar="PRESSURE", type=limits.least, help="the lowest pressure that a hydrant may "
                    "have, as 10m, 15psi or 33ft; 0 if not given")
@@ -44,6 +60,7 @@ def parser():
     p.add_argument("--explain", action="store_true", help="print the sheets' records with their byte offsets")
     p.add_argument("--sheet", metavar="TEXTFILE", help="turn a scheme in the text form into a sheet")
     p.add_argument("--text", metavar="SHEET", help="print a sheet in the text form, which gives that sheet again")
+    p.add_argument("--version", action="version", version="desk " + VERSION, help="print the version")
     p.add_argument("-o", dest="out", metavar="FILE", help="where --sheet and --text write it")
     return p
 

@@ -8,13 +8,18 @@ import subprocess
 ROOT = os.path.dirname(os.path.dirname(os.path.abspath(__file__)))
 
 
+def is_installed():
+    """Whether this stands without the repository, where tools/install.py put it."""
+    return os.path.isdir(os.path.join(ROOT, "programs"))
+
+
 def path(name):
-    return os.path.join(ROOT, "target", "bin", name)
+    return os.path.join(ROOT, "programs", name) if is_installed() else os.path.join(ROOT, "target", "bin", name)
 
 
 def memory():
     """Where it is kept which kit built the programs, so that they run without its command."""
-    return os.path.join(ROOT, "target", "kit")
+    return os.path.join(ROOT, "kit") if is_installed() else os.path.join(ROOT, "target", "kit")
 
 
 def remembered():
@@ -27,7 +32,7 @@ def remembered():
 
 def remember_kit():
     """Where `rt` is on the path and the folder can be written."""
-    if shutil.which("rt") is None or remembered() == kit():
+    if is_installed() or shutil.which("rt") is None or remembered() == kit():
         return
     try:
         with open(memory(), "w", encoding="utf-8") as file:

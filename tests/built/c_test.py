@@ -23,19 +23,19 @@ def said(*words):
     return subprocess.run(words, stdout=subprocess.PIPE, check=True, universal_newlines=True).stdout.strip()
 
 
-def build_here(program):
-    said("gcc", "-O2", "-Wall", "-Wextra", "-Werror", "-I", INCLUDE, "-o", program, SOURCE, LIBRARY)
+def build_here(program, include=INCLUDE, library=LIBRARY, source=SOURCE):
+    said("gcc", "-O2", "-Wall", "-Wextra", "-Werror", "-pthread", "-I", include, "-o", program, source, library)
     return [program]
 
 
-def build_by_kit(program):
+def build_by_kit(program, include=INCLUDE, library=LIBRARY, source=SOURCE):
     tools = programs.toolchain()
     headers = [said("gcc", "-print-file-name=include"), "/usr/include/" + said("gcc", "-dumpmachine"), "/usr/include"]
     places = [word for place in headers for word in ("-isystem", place)]
-    said(os.path.join(tools, "bin", "clang"), "--target=x86_64-unknown-linux-gnu", "-O2", "-fPIC", *places, "-I", INCLUDE,
-         "-c", SOURCE, "-o", program + ".o")
+    said(os.path.join(tools, "bin", "clang"), "--target=x86_64-unknown-linux-gnu", "-O2", "-fPIC", *places, "-I", include,
+         "-c", source, "-o", program + ".o")
     link = os.path.join(os.path.dirname(tools), "bin", "rattle-link")
-    said(link, "--target", "x86_64-unknown-linux-gnu", "--toolchain", tools, "-o", program, program + ".o", LIBRARY)
+    said(link, "--target", "x86_64-unknown-linux-gnu", "--toolchain", tools, "-o", program, program + ".o", library)
     return programs.by_loader(program)
 
 
