@@ -1,4 +1,5 @@
 """The vectors of crates float, roots and power, and the arithmetic that their answers come from."""
+import glob
 import math
 import os
 import random
@@ -73,6 +74,35 @@ class Arithmetic(unittest.TestCase):
         for p, _ in self.patterns():
             x = as_float(p)
             self.assertEqual(exact.root(p), as_bits(math.sqrt(x) if x >= 0 or x != x else math.nan))
+
+
+class Products(unittest.TestCase):
+    """Below `root` no product is formed, of whole numbers or of f64s (document 02, [5])."""
+
+    CALLED = {"f64::to_bits", "f64::from_bits", "u64::leading_zeros"}
+
+    def code(self, text):
+        """A source without comments, ghost lines and contracts."""
+        text = re.sub(r"//.*", "", text)
+        text = re.sub(r"^ghost .*?;$", "", text, flags=re.M | re.S)
+        return re.sub(r"^ +(requires|ensures|decreases)\b.*$", "", text, flags=re.M)
+
+    def found(self, text):
+        """Products, and calls of what does not stand in the crate."""
+        code = self.code(text)
+        outside = [name for name in re.findall(r"\b\w+(?:::\w+)+(?=\()", code) if name not in self.CALLED]
+        return re.findall(r"\*|\w*(?:mul|pow|square|fma)\w*(?=\()", code) + outside
+
+    def test_the_crate_forms_none(self):
+        sources = [read(os.path.relpath(path, TOP)).decode() for path in glob.glob(TOP + "/crates/roots/src/**/*.rt", recursive=True)]
+        self.assertIn("pub fn root(", "".join(sources))
+        self.assertEqual([self.found(source) for source in sources], [[] for _ in sources])
+
+    def test_it_would_see_one(self):
+        for line in ("let y = a * b;", "x *= 3.0;", "y = std::num::wrapping_mul_u64(a, b);", "square(x)", "float::whole_power(x, 2)"):
+            self.assertTrue(self.found(line), line)
+        spared = "// a * b\nghost use N.{_+_,\n    _*_};\nfn f(n: u64)\n    requires { ⌜ n * 2 < 9 ⌝ }\n{ f64::to_bits(x) / 2 }\n"
+        self.assertEqual(self.found(spared), [])
 
 
 class Tables(unittest.TestCase):
