@@ -34,6 +34,68 @@ class Systems(unittest.TestCase):
         self.assertGreaterEqual(sum(0 < p & ~exact.SIGN < 1 << 52 for p in given), 100)
 
 
+def skipping(a, zero, calm):
+    """The recipe's factorization, but for columns whose factor is `zero` while every number looked at is `calm`."""
+    skip = True
+    for c, top in enumerate(a):
+        skip = skip and all(calm(row[c], True) for row in a[c:])
+        for k in range(c):
+            if not (skip and zero(top[k])):
+                for row in a[c:]:
+                    row[c] = exact.sub(row[c], exact.mul(row[k], top[k] if row is not top else row[k]))
+        if not exact.less(0, top[c]):
+            return c
+        top[c] = exact.root(top[c])
+        for row in a[c + 1:]:
+            row[c] = exact.div(row[c], top[c])
+            skip = skip and calm(row[c], False)
+    return None
+
+
+def is_zero(p):
+    return p & ~exact.SIGN == 0
+
+
+def is_finite(p):
+    return p & ~exact.SIGN < exact.INFINITY
+
+
+class Temptations(unittest.TestCase):
+    """The systems tell a factorization that skips zeros rightly from those that skip too much."""
+
+    @classmethod
+    def setUpClass(cls):
+        cls.given = [a for a, _ in linear_vectors.systems() if len(a) <= 16]
+        cls.right = [cls.outcome(linear_vectors.factor, a) for a in cls.given]
+
+    @staticmethod
+    def outcome(way, a, *rules):
+        a = [row[:] for row in a]
+        return way(a, *rules), [[exact.canonical(p) for p in row] for row in a]
+
+    def told(self, zero, calm):
+        return sum(self.outcome(skipping, a, zero, calm) != right for a, right in zip(self.given, self.right))
+
+    def test_right(self):
+        self.assertEqual(self.told(is_zero, lambda p, given: p != exact.SIGN if given else is_finite(p)), 0)
+
+    def test_without_the_test(self):
+        self.assertGreaterEqual(self.told(is_zero, lambda p, given: True), 20)
+
+    def test_minus_zero_unseen(self):
+        self.assertGreaterEqual(self.told(is_zero, lambda p, given: given or is_finite(p)), 5)
+
+    def test_infinity_unseen(self):
+        self.assertGreaterEqual(self.told(is_zero, lambda p, given: p != exact.SIGN if given else p != exact.NAN), 5)
+
+    def test_nan_unseen(self):
+        self.assertGreaterEqual(self.told(is_zero, lambda p, given: p != exact.SIGN if given else is_finite(p) or p == exact.NAN), 5)
+
+    def test_subnormal_skipped(self):
+        tiny = lambda p: p & ~exact.SIGN < 1 << 52
+        self.assertGreaterEqual(self.told(tiny, lambda p, given: p != exact.SIGN if given else is_finite(p)), 5)
+
+
 class Oracle(unittest.TestCase):
     """The stored answers are the oracle's, bit for bit, where it can be built."""
 

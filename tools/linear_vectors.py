@@ -5,6 +5,7 @@
 
 A system is its lower triangle, a list of rows, and its right side, all bit patterns.
 """
+import itertools
 import random
 import struct
 
@@ -87,6 +88,18 @@ def whole(rng, n, stop):
     return a, [number(rng.randrange(-99, 100)) for _ in range(n)]
 
 
+# what a skipped product with zero could hide: zeros of both signs, a subnormal, an infinity, no number at all
+TEMPTING = [0, SIGN, (1 << 52) - 1, INFINITY, NAN, SIGN | 1022 << 52]
+
+
+def sparse(rng, n, wild, share):
+    """A heavy diagonal; of the other entries a quarter filled, of the rest this share out of `wild`, else +0.0."""
+    part = lambda: rng.getrandbits(1) << 63 | 1022 << 52 | rng.getrandbits(52)
+    other = lambda: part() if rng.random() < 0.25 else rng.choice(wild) if rng.random() < share else 0
+    a = [[exact.mul(number(2 * n), part() & ~SIGN) if r == c else other() for c in range(r + 1)] for r in range(n)]
+    return a, [part() for _ in range(n)]
+
+
 def systems():
     rng = random.Random(7)
     yield [], []
@@ -122,8 +135,17 @@ def systems():
         yield dominant(rng, n)
         yield chain(rng, n)
         yield whole(rng, n, n // 2)
+    for below in itertools.product(TEMPTING, repeat=3):  # every entry below the diagonal of three unknowns
+        a, x = dominant(rng, 3)
+        (a[1][0], a[2][0], a[2][1]) = below
+        yield a, x
+    for n in (8, 16):
+        for wild in [[SIGN], [(1 << 52) - 1, SIGN | (1 << 51)], [INFINITY - 1], [INFINITY, SIGN | INFINITY], [NAN], SPECIAL]:
+            for share in (0.02, 0.1, 0.5):
+                yield sparse(rng, n, wild, share)
     yield dominant(rng, 64)
     yield chain(rng, 64)
+    yield sparse(rng, 64, [0], 0)
     yield whole(rng, 64, 31)
     yield whole(rng, 64, 63)
 
