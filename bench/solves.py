@@ -35,12 +35,12 @@ def call(*words):
     return subprocess.run(words, cwd=ROOT, stdout=subprocess.PIPE, check=True, universal_newlines=True).stdout
 
 
-def library():
+def library(name):
     if platform.machine() == "x86_64":
-        call("rt", "staticlib", "desk")
-        return "target/staticlib/libdesk.a", "the proved library as it ships"
-    call("../shared/tools/native_lib", "desk")
-    return "target/native/libdesk.a", "native_lib: the proved library's LLVM module compiled for this processor"
+        call("rt", "staticlib", name)
+        return "target/staticlib/lib%s.a" % name, "the proved library as it ships"
+    call("../shared/tools/native_lib", name)
+    return "target/native/lib%s.a" % name, "native_lib: the proved library's LLVM module compiled for this processor"
 
 
 def sheets():
@@ -71,7 +71,7 @@ def main(rounds):
         if status:
             sys.exit(text)
     os.makedirs(os.path.join(ROOT, "target", "bench"), exist_ok=True)
-    archive, origin = library()
+    archive, origin = library("desk")
     call("gcc", "-O2", "-o", "target/bench/solves", "bench/solves.c", archive)
     files = sheets()
     proved, others = [], {build: [] for build in BUILDS}

@@ -113,6 +113,48 @@ pub mod linalg {
     }
 }
 
+/// The systems as they come to be solved, kept while that is asked for.
+pub mod told {
+    use std::cell::RefCell;
+
+    pub struct System {
+        pub n: usize,
+        /// n by n, row by row; what stands above the diagonal says nothing
+        pub lower: Vec<f64>,
+        /// empty where the factorization stopped
+        pub right: Vec<f64>,
+    }
+
+    thread_local! {
+        static KEPT: RefCell<Option<Vec<System>>> = const { RefCell::new(None) };
+    }
+
+    pub fn start() {
+        KEPT.with(|kept| *kept.borrow_mut() = Some(vec![]));
+    }
+
+    pub fn take() -> Vec<System> {
+        KEPT.with(|kept| kept.borrow_mut().take().unwrap_or_default())
+    }
+
+    pub(crate) fn matrix(lower: &[f64], n: usize) {
+        KEPT.with(|kept| {
+            if let Some(systems) = &mut *kept.borrow_mut() {
+                let (lower, right) = (lower.to_vec(), vec![]);
+                systems.push(System { n, lower, right });
+            }
+        });
+    }
+
+    pub(crate) fn right(b: &[f64]) {
+        KEPT.with(|kept| {
+            if let Some(last) = kept.borrow_mut().as_mut().and_then(|s| s.last_mut()) {
+                last.right = b.to_vec();
+            }
+        });
+    }
+}
+
 /// The dense LL^T of document 01, item 7.
 pub mod dense {
     /// Factorises in place the lower triangle in `a` (n by n, row by row).
@@ -398,7 +440,7 @@ pub mod sparse {
             use crate::linalg::cholesky::llt::factor::LltError as Numeric;
             use crate::linalg::solvers::Solve;
             use crate::sparse::{SparseColMatRef, SymbolicSparseColMatRef};
-            use crate::{FaerError, Mat, Side, dense};
+            use crate::{FaerError, Mat, Side, dense, told};
             use std::marker::PhantomData;
             use std::sync::Arc;
 
@@ -454,6 +496,7 @@ pub mod sparse {
                             l[x.max(y) * n + x.min(y)] = a.val[p];
                         }
                     }
+                    told::matrix(&l, n);
                     match dense::factorize(&mut l, n) {
                         Ok(()) => Ok(Llt { symbolic, n, l }),
                         Err(column) => Err(LltError::Numeric(Numeric::NonPositivePivot {
@@ -468,6 +511,7 @@ pub mod sparse {
                     assert!(rhs.nrows() == self.n && rhs.ncols() == 1);
                     let (forward, inverse) = &*self.symbolic.perm;
                     let mut b: Vec<f64> = forward.iter().map(|&old| rhs[(old, 0)]).collect();
+                    told::right(&b);
                     dense::substitute(&self.l, self.n, &mut b);
                     Mat::from_fn(self.n, 1, |r, _| b[inverse[r]])
                 }
