@@ -1,13 +1,38 @@
 // The square root of an f64, from bits.
 ghost use mathlib.Core.Path.{_≡_};
-ghost use Prim.Native.Nat.{_+_, _*_, _/_, _^_, _≤_, _<_};
+ghost use Prim.Native.Nat.{_+_, _-_, _*_, _/_, _^_, _≤_, _<_};
 ghost use Rattle.roots.specs.Root.{wholeRoot, rootBits, rootOf};
 ghost use Rattle.nearest.specs.Nearest.{field, significand};
 
-// The whole number nearest to the root of n * 2^52, digit by digit with no product: s is twice the
-// root so far of n * 2^54, w the weight of the next digit, x * w what is left. The first digit is 1,
-// the last one rounds. A digit is 1 where x reaches t; both ways are plain assignments, and x < t is
-// asked and not t <= x, so that the compiler makes selects of them and no jump.
+// A digit of a root is 1 where x reaches t: x is what is left, divided by the digit's weight w, and t
+// is w more than s, twice the root so far. What is left after the digit, divided by the next weight.
+// Here and in `grown` both ways are plain assignments, and x < t is asked and not t <= x, so that the
+// compiler makes selects of them and no jump.
+fn left(x: u64, t: u64) -> u64
+    requires { ⌜ (x < 2 ^ 56) × (t < 2 ^ 56) ⌝ }
+    ensures { λ r. ⌜ (x < t → r ≡ 2 * x) × (t ≤ x → r ≡ 2 * (x - t)) ⌝ }
+{
+    let mut d = t + t;
+    if x < t {
+        d = 0;
+    }
+    x + x - d
+}
+
+// Twice the root after the digit.
+fn grown(x: u64, s: u64, t: u64, w: u64) -> u64
+    requires { ⌜ (t < 2 ^ 56) × (w < 2 ^ 56) ⌝ }
+    ensures { λ r. ⌜ (x < t → r ≡ s) × (t ≤ x → r ≡ t + w) ⌝ }
+{
+    let mut r = t + w;
+    if x < t {
+        r = s;
+    }
+    r
+}
+
+// The whole number nearest to the root of n * 2^52, from the digits of the root of n * 2^54, with no
+// product. The first digit is 1, then come two a turn, and the last one rounds.
 fn nearest_root(n: u64) -> u64
     requires { ⌜ (2 ^ 52 ≤ n) × (n < 2 ^ 54) ⌝ }
     ensures { λ r. ⌜ r ≡ (wholeRoot (n * 2 ^ 54) + 1) / 2 ⌝ }
@@ -17,15 +42,13 @@ fn nearest_root(n: u64) -> u64
     let mut w: u64 = 0x10_0000_0000_0000;
     while 1 < w {
         let t = s + w;
-        let mut d = t + t;
-        let mut next = t + w;
-        if x < t {
-            d = 0;
-            next = s;
-        }
-        x = x + x - d;
-        s = next;
-        w = w >> 1;
+        let y = left(x, t);
+        let q = grown(x, s, t, w);
+        let v = w >> 1;
+        let u = q + v;
+        x = left(y, u);
+        s = grown(y, q, u, v);
+        w = v >> 1;
     }
     if s < x { s / 4 + 1 } else { s / 4 }
 }
