@@ -53,9 +53,9 @@ def is_there(name):
     return os.path.exists(programs.path(name))
 
 
-def is_old(name):
-    """Whether a source is younger than the program."""
-    built = os.stat(programs.path(name)).st_mtime
+def is_old(name, path=None):
+    """Whether a source is younger than the program, or than what else was made of this crate at a path."""
+    built = os.stat(path or programs.path(name)).st_mtime
     return any(os.stat(source).st_mtime > built for source in sources(name))
 
 

@@ -2,7 +2,12 @@
 
    A buffer is its start and its length in entries. An empty buffer may have any start, a null one too.
    Buffers must not overlap one another or the sheet. Nothing is kept between two calls, and nothing but
-   these buffers is written. */
+   these buffers is written: several threads may call at the same time, each with buffers of its own (several
+   may lend the same sheet).
+
+   Stack that a call needs below its caller's frame, whatever the sheet: 20 KiB for desk_solve, 32 KiB for
+   desk_verdict (17,327 and 28,591 bytes at most were measured on x86-64). A thread needs some KiB more for
+   itself: lend it 64 KiB. */
 #ifndef DESK_H
 #define DESK_H
 

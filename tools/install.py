@@ -43,17 +43,22 @@ def put(data, path, mode):
     os.chmod(path, mode)
 
 
-def build():
-    for name in PROGRAMS:
-        building.have(name)
+def have_library():
+    """Has the library built where it is not there, or older than its sources; the path to it."""
+    path = top(LIBRARY)
+    if os.path.exists(path) and not building.is_old("desk", path):
+        return path
     done = subprocess.run(["rt", "staticlib", "desk"], cwd=programs.ROOT, stdout=subprocess.PIPE, stderr=subprocess.STDOUT,
                           universal_newlines=True, check=False)
     if done.returncode:
         raise building.NotToBeHad("rt staticlib desk did not build the library:\n" + done.stdout.strip())
+    return path
 
 
 def install(prefix):
-    build()
+    for name in PROGRAMS:
+        building.have(name)
+    have_library()
     for source, name, mode in pairs():
         with open(source, "rb") as file:
             put(file.read(), os.path.join(prefix, name), mode)

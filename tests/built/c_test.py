@@ -11,6 +11,7 @@ import unittest
 ROOT = os.path.dirname(os.path.dirname(os.path.dirname(os.path.abspath(__file__))))
 sys.path[:0] = [ROOT, os.path.join(ROOT, "tools")]
 
+import install  # noqa: E402
 from coordinator import listings  # noqa: E402
 from coordinator import programs  # noqa: E402
 
@@ -41,7 +42,7 @@ def build_by_kit(program, include=INCLUDE, library=LIBRARY, source=SOURCE):
 
 class FromC(unittest.TestCase):
     def test_short_buffers_are_refused_and_later_entries_stay(self):
-        said("rt", "staticlib", "desk")
+        install.have_library()
         with tempfile.TemporaryDirectory() as folder:
             build = build_here if platform.machine() == "x86_64" else build_by_kit
             command = build(os.path.join(folder, "solve"))

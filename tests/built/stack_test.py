@@ -1,0 +1,58 @@
+"""How much stack a call needs, and calls from several threads: what include/desk.h says of both, measured by stack.c."""
+import os
+import platform
+import re
+import sys
+import tempfile
+import unittest
+
+TOP = os.path.dirname(os.path.dirname(os.path.dirname(os.path.abspath(__file__))))
+sys.path[:0] = [TOP, os.path.join(TOP, "tools")]
+
+import c_test  # noqa: E402
+import install  # noqa: E402
+import sheets  # noqa: E402
+from stored import read  # noqa: E402
+
+SOURCE = os.path.join(TOP, "tests", "built", "stack.c")
+HEADER = read("include/desk.h").decode()
+KIB = 1024
+
+
+def named(folder):
+    """Networks of every kind, full ones and refused ones among them."""
+    found = [case for case in sheets.stored() if re.match(r"(pd-)?(real|wild|damaged)-\d+-\d$|2-64-nodes|june", case.name)]
+    for case in found:
+        with open(os.path.join(folder, case.name + ".sheet"), "wb") as file:
+            file.write(case.data)
+    return [os.path.join(folder, case.name + ".sheet") for case in found]
+
+
+class Stack(unittest.TestCase):
+    @classmethod
+    def setUpClass(cls):
+        install.have_library()
+        folder = tempfile.TemporaryDirectory()
+        cls.addClassCleanup(folder.cleanup)
+        build = c_test.build_here if platform.machine() == "x86_64" else c_test.build_by_kit
+        command = build(os.path.join(folder.name, "stack"), source=SOURCE)
+        cls.lines = [line.split() for line in c_test.said(*command, *named(folder.name)).splitlines()]
+
+    def most(self, what):
+        found = [int(line[2]) for line in self.lines if line[1] == what]
+        self.assertGreater(len(found), 40)
+        return max(found)
+
+    def test_what_the_header_says_is_enough_and_not_far_from_it(self):
+        told = re.search(r"(\d+) KiB for desk_solve, (\d+) KiB for\s+desk_verdict", HEADER)
+        for what, kib in zip(("solve", "verdict"), told.groups()):
+            self.assertLessEqual(self.most(what), int(kib) * KIB, what)
+            self.assertGreater(self.most(what), int(kib) * KIB / 2, what)
+
+    def test_threads(self):
+        self.assertIn("several threads may call at the same time", " ".join(HEADER.split()))
+        self.assertEqual(self.lines[-1], ["threads", "same"])
+
+
+if __name__ == "__main__":
+    unittest.main()
