@@ -1,11 +1,12 @@
 """Answers every file that the desk was asked about, one after the other, whatever becomes of the others."""
 import os
 
-from . import as_json, files, pages, pictures, schemes, unsettled
+from . import as_json, bookings, evening, evening_out, files, pages, pictures, schemes, sheet_bounds, unsettled
 from .answer import BAD_USE, CLEAN, Answer, gravest
 from .asking import NotToBeHad
 from .files import BadUse
 from .schemes import BadText
+from .sheet_text import Mistake
 from .streams import complain, note, put
 
 
@@ -85,6 +86,50 @@ class Round:
         if self.options.json:
             put(as_json.document(self.found))
         return gravest(self.statuses)
+
+
+def note_mistakes(name, mistakes):
+    for line, words in sorted(mistakes):
+        note("%s:%d: %s" % (files.shown(name), line, words))
+
+
+def table_of(name, given):
+    """The bookings for a scheme."""
+    if sheet_bounds.reading(given.data)[0] != "G":
+        raise BadUse("%s would be refused: solve it alone to see why" % files.shown(given.name))
+    nodes = [fields for _, mark, fields in sheet_bounds.records(given.data)[0] if mark == b"ND"]
+    table_file = files.read(name)
+    if table_file.path:
+        raise BadUse("%s has more than %d bytes, which is too long for bookings" % (files.shown(name), files.MOST))
+    try:
+        return bookings.read(table_file.data, bookings.Scheme(nodes, given.names))
+    except Mistake as mistake:
+        raise BadUse("%s: %s" % (files.shown(name), mistake)) from mistake
+
+
+def answer_bookings(options, limits, ask):
+    """The exit status: of the hours the gravest, and 2 where a line has a mistake."""
+    (scheme,), name = options.files, options.bookings
+    given = schemes.read(scheme)
+    table = table_of(name, given)
+    try:
+        found = evening.evening(given, table, limits, ask)
+    except NotToBeHad as error:
+        raise BadUse(str(error)) from error
+    note_mistakes(name, table.mistakes + [mistake for hour in table.hours.values() for mistake in hour.mistakes])
+    if found:
+        put(evening_out.as_json(found) if options.json else evening_out.page(found))
+    elif options.json:
+        put("[]\n")
+    statuses = [judged.exit_status for judged in found] + ([BAD_USE] if table.mistakes else [])
+    if options.plot and found:
+        picture = evening_out.picture(name, found).encode("utf-8", "replace")
+        try:
+            files.write(options.plot, picture, [scheme, name])
+        except BadUse as error:
+            complain(str(error))
+            statuses.append(BAD_USE)
+    return gravest(statuses)
 
 
 def picture_name(plot, number, name, several):

@@ -24,6 +24,7 @@ examples:
   desk scheme.txt                              a page
   desk --least 10m --plot out.svg scheme.txt   no hydrant below 10 m; a picture besides
   desk --json *.sheet                          one JSON list
+  desk --bookings week.csv scheme.txt          yes or no for every hour
   desk --sheet scheme.txt -o scheme.sheet      the text form as a sheet
   desk --text scheme.sheet                     and back
 
@@ -57,6 +58,8 @@ def parser():
                    "have, as 10m, 15psi or 33ft; 0 if not given")
     p.add_argument("--within", metavar="TOLERANCES", type=limits.within, default={}, help="how far heads and "
                    "flows may be from what the laws say, as 0.1ft,0.001cfs (so it is if not given) or one of the two")
+    p.add_argument("--bookings", metavar="FILE.csv", help="answer each hour of a table of bookings: hour, hydrant, flow and, "
+                   "if wanted, least (BOOKINGS.md)")
     p.add_argument("--explain", action="store_true", help="print the sheets' records with their byte offsets")
     p.add_argument("--sheet", metavar="TEXTFILE", help="turn a scheme in the text form into a sheet")
     p.add_argument("--text", metavar="SHEET", help="print a sheet in the text form, which gives that sheet again")
@@ -72,7 +75,7 @@ def limits_of(options):
 
 def check(p, options):
     """Ends with a message where the arguments do not go together."""
-    asks = options.json or options.plot or options.least is not None or options.within
+    asks = options.json or options.plot or options.least is not None or options.within or options.bookings is not None
     if options.sheet is not None or options.text is not None:
         if options.sheet is not None and options.out is None:
             p.error("--sheet needs -o FILE.sheet")
@@ -84,6 +87,8 @@ def check(p, options):
         p.error("name a scheme: a sheet or a text")
     elif options.explain and asks:
         p.error("--explain goes alone")
+    elif options.bookings is not None and (len(options.files) != 1 or options.bookings == options.files[0] == "-"):
+        p.error("--bookings goes with one scheme")
     elif options.plot is not None and not options.plot.endswith(".svg"):
         # else `--plot a.sheet b.sheet` would write over a sheet
         p.error("--plot writes a file whose name ends in .svg")
@@ -137,6 +142,8 @@ def run(options, ask):
         return make_text(options.text, options.out)
     if options.explain:
         return explain_all(options.files)
+    if options.bookings is not None:
+        return answering.answer_bookings(options, limits_of(options), ask)
     return answering.Round(options, limits_of(options), ask).run()
 
 

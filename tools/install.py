@@ -16,8 +16,8 @@ from coordinator import asking, building, files, programs
 
 PROGRAMS = (asking.NAME, asking.ANY_LENGTH)
 LIBRARY = "target/staticlib/libdesk.a"
-PAPERS = ("README.md", "CHANGELOG.md", "NOTICE", "docs/DESK.md", "docs/SHEETS.md", "docs/RULES.md", "docs/desk.schema.json",
-          "docs/june.svg")
+PAPERS = ("README.md", "CHANGELOG.md", "NOTICE", "docs/DESK.md", "docs/SHEETS.md", "docs/BOOKINGS.md", "docs/RULES.md",
+          "docs/desk.schema.json", "docs/bookings.schema.json", "docs/june.svg")
 
 
 def top(*names):

@@ -139,6 +139,45 @@ class Texts(unittest.TestCase):
         self.assertEqual((status, out.splitlines()[0]), (1, "refused, number 1 at place 0: the file is text and not a sheet"))
 
 
+class Bookings(unittest.TestCase):
+    TABLE = "examples/evening/bookings.csv"
+
+    def test_the_evening_of_the_examples(self):
+        status, out = desk("--bookings", self.TABLE, "examples/dry-week/fixed-demands.txt")
+        self.assertEqual((status, out.splitlines()), (3, [
+            "18:00  yes  2 hydrants with 17.00 LPS; lowest pressure 33.04 m at node 3 (mill)",
+            "19:00  no   hydrant 4 (ridge) has 4.17 m and is booked with 10.00 m at least",
+            "20:00  yes  2 hydrants with 13.00 LPS; lowest pressure 15.24 m at node 4 (ridge)"]))
+        with open(os.path.join(TOP, "docs", "BOOKINGS.md"), encoding="utf-8") as paper:
+            text = paper.read()
+        for line in out.splitlines()[:2]:
+            self.assertIn(line, text)
+
+    def test_an_hour_is_what_its_sheet_alone_is(self):
+        """The whole scheme booked with its own demands: the verdict and the pressures of the scheme itself."""
+        with tempfile.NamedTemporaryFile("w", suffix=".csv") as table:
+            table.write("".join("1,%s,%d L/s\n" % pair for pair in (
+                ("lower", 9), ("mill", 8), ("ridge", 7), ("slope", 8), ("end", 6))))
+            table.flush()
+            for name in ("fixed-demands", "giving-way"):
+                scheme = "examples/dry-week/%s.txt" % name
+                ((hour,), (alone,)) = (json.loads(desk("--json", *args, scheme)[1]) for args in (("--bookings", table.name), ()))
+                self.assertEqual((hour["verdict"], hour["may_be_sold"]), (alone["verdict"], alone["may_be_sold"]))
+                self.assertEqual([booking["pressure_ft_bits"] for booking in hour["bookings"]],
+                                 [node["pressure_ft_bits"] for node in alone["nodes"][2:]])
+
+    def test_a_lower_need_beside_a_higher_one(self):
+        """A node out of question changes no bit of the answer where nothing else reads its elevation."""
+        with tempfile.NamedTemporaryFile("w", suffix=".csv") as table:
+            table.write("1,lower,9 L/s,30 m\n1,ridge,7 L/s\n1,end,6 L/s,20m\n")
+            table.flush()
+            status, out = desk("--bookings", table.name, "examples/dry-week/fixed-demands.txt")
+            self.assertEqual((status, out), (0, "1  yes  3 hydrants with 22.00 LPS; lowest pressure 12.56 m at node 4 (ridge)\n"))
+            status, out = desk("--bookings", table.name, "examples/dry-week/giving-way.txt")
+            self.assertEqual(status, 3)
+            self.assertIn("which the verdict cannot show beside node 4 (ridge)", out)
+
+
 class Desk(unittest.TestCase):
     def test_every_example_is_expected(self):
         top = os.path.join(TOP, "examples")
