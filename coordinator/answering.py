@@ -2,7 +2,7 @@
 import os
 
 from . import as_json, bookings, evening, evening_out, files, pages, pictures, schemes, sheet_bounds, unsettled
-from .answer import BAD_USE, CLEAN, Answer, gravest
+from .answer import BAD_USE, Answer, gravest
 from .asking import NotToBeHad
 from .files import BadUse
 from .schemes import BadText
@@ -107,15 +107,26 @@ def table_of(name, given):
         raise BadUse("%s: %s" % (files.shown(name), mistake)) from mistake
 
 
-def answer_bookings(options, limits, ask):
-    """The exit status: of the hours the gravest, and 2 where a line has a mistake."""
+def judged_hours(options, limits, ask):
+    """The table and its hours, judged."""
     (scheme,), name = options.files, options.bookings
     given = schemes.read(scheme)
     table = table_of(name, given)
     try:
-        found = evening.evening(given, table, limits, ask)
+        return table, evening.evening(given, table, limits, ask)
     except NotToBeHad as error:
         raise BadUse(str(error)) from error
+
+
+def answer_bookings(options, limits, ask):
+    """The exit status: of the hours the gravest, and 2 where a line has a mistake."""
+    (scheme,), name = options.files, options.bookings
+    try:
+        table, found = judged_hours(options, limits, ask)
+    except BadUse as error:
+        tell(error)
+        put(as_json.document([Unanswered(scheme, str(error))]) if options.json else "")
+        return BAD_USE
     note_mistakes(name, table.mistakes + [mistake for hour in table.hours.values() for mistake in hour.mistakes])
     if found:
         put(evening_out.as_json(found) if options.json else evening_out.page(found))

@@ -244,7 +244,15 @@ class Out(Folder):
         paper = read("docs/BOOKINGS.md").decode()
         rows = [line for line in paper[paper.index("| key | holds |"):].splitlines() if line.startswith("| `")]
         documented = {word for line in rows for word in re.findall(r"`(\w+)`", line)} - {"yes", "no"}
-        self.assertEqual(documented, keys(schema))
+        self.assertEqual(documented, keys(schema["$defs"]["hour"]))
+
+    def test_json_is_a_list_whatever_is_wrong(self):
+        schema = json.loads(read("docs/bookings.schema.json"))
+        for table, scheme in (("", None), ("1,mill,1 L/s\n", self.path("none.txt")), ("hour,colour\n", None)):
+            status, out, err = self.desk(table, "--json", scheme=scheme)
+            (found,) = json.loads(out)
+            self.assertEqual((status, Checker(schema).faults([found])), (2, []))
+            self.assertTrue(found["error"] and err)
 
     def test_the_picture(self):
         picture = self.path("p.svg")
