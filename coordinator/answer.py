@@ -1,5 +1,5 @@
 """A sheet, the verdict and the listing that the proved program gave for it, and what a desk must know of them."""
-from . import drawn, network, notes, refusals, sheet_bounds, verdict
+from . import causes, drawn, network, notes, refusals, sheet_bounds, verdict
 from .limits import USUAL
 from .listings import Listing
 from .sheet_format import LINK_KINDS
@@ -33,6 +33,7 @@ class Answer:
         give_names(self.nodes, self.links, names)
         self.entries = [(mark, int(number)) for mark, number in
                         (entry.split(" ") for entry in self.listing.record)]
+        self.changes = causes.changes(self.entries)
         self.refusal = None if self.solved else refusals.explain(
             data, self.listing.number, self.listing.place, whole, names)
         # refusals up to 5 may have no options to read
@@ -167,7 +168,9 @@ def entry_words(answer, mark, number):
         return "%s failed again though it was grounded" % answer.node(number)
     if mark == "NF":
         return answer.refusal.why
-    return {"OK": "converged", "ST": "stepped, not yet converged"}[mark]
+    change = causes.told(None, mark, number)
+    return {"OK": "converged", "ST": "stepped, not yet converged"}[mark] + (
+        "; " + causes.words(answer.links, change) if change else "")
 
 
 def record_words(answer):

@@ -1,7 +1,7 @@
 """An answer for a program; docs/DESK.md says what each key holds."""
 import json
 
-from . import notes
+from . import causes, notes
 from .answer import Answer, entry_words
 from .network import HOLDS, in_service
 from .sheet_format import LINK_KINDS, NODE_KINDS, STATUSES, bits
@@ -61,7 +61,8 @@ def link(answer, i):
              "start_name": names[0], "end_name": names[1], "in_service": in_service(fields, answer.nodes),
              "freed": i in answer.freed, "check_valve_holds": notes.check_holds(answer, i),
              "status": STATUSES[status], "status_in_sheet": STATUSES[fields["status"]],
-             "changed": status != fields["status"]}
+             "changed": status != fields["status"],
+             "changes": [dict(trial=c.trial, **change(answer, c)) for c in answer.changes if c.link == i]}
     found.update(numbers(flow_cfs=flow, flow=flow * answer.units.per_cfs))
     if LINK_KINDS[fields["kind"]] in HOLDS:
         short = notes.lack(answer, i)
@@ -69,6 +70,18 @@ def link(answer, i):
                              setting=fields["setting"] * answer.units.per_foot,
                              setting_lack=short * answer.units.per_foot))
     return found
+
+
+def change(answer, found):
+    """A change of status that the record tells: its cause by number and name, and what the link did and why."""
+    did, why = causes.deed(answer.links, found)
+    return {"cause": found.cause, "cause_name": causes.NAMES[found.cause], "did": did, "why": why}
+
+
+def trial_entry(answer, trial, mark, number):
+    told = causes.told(trial, mark, number)
+    return {"trial": trial, "mark": mark, "number": number, "words": entry_words(answer, mark, number),
+            "changed": dict(link=told.link, **change(answer, told)) if told else None}
 
 
 def results(answer):
@@ -93,8 +106,7 @@ def answer_keys(answer):
                           flow_cfs=answer.limits.flow),
         "number": answer.listing.number, "place": answer.listing.place, "trials": answer.listing.trials,
         "freed": answer.freed, "grounded": answer.grounded, "undetermined": answer.undetermined,
-        "record": [{"trial": trial, "mark": mark, "number": number, "words": entry_words(answer, mark, number)}
-                   for trial, (mark, number) in enumerate(answer.entries, 1)],
+        "record": [trial_entry(answer, trial, mark, number) for trial, (mark, number) in enumerate(answer.entries, 1)],
         "refusal": None if answer.solved else refusal(answer),
     }
     found.update(results(answer) if answer.solved else {})

@@ -1,5 +1,5 @@
 """An answer for a person."""
-from . import notes
+from . import causes, notes
 from .answer import record_words
 from .drawn import pressure_range
 from .files import shown
@@ -79,6 +79,16 @@ def hydrants(answer):
     yield from table(header + ["lacks %", "<"], [hydrant_row(answer, h) for h in answer.hydrants.values()])
 
 
+def last_change(answer, number):
+    """The last change of a link that the record tells, in words."""
+    found = [change for change in answer.changes if change.link == number]
+    if not found:
+        return ""
+    # a tank shuts its links after the update, and the record does not tell that
+    shut = STATUSES[answer.listing.statuses[number]] == "TempClosed"
+    return causes.mark(answer.links, found[-1]) + (", and a tank shut it after that" if shut else "")
+
+
 def link_marks(answer, number):
     link = answer.links[number]
     was = link["status"]
@@ -87,6 +97,7 @@ def link_marks(answer, number):
              ("carries water", notes.carries(answer, number)),
              ("check valve holds", notes.check_holds(answer, number)),
              (short_mark(answer, number), notes.lack(answer, number)),
+             (last_change(answer, number), last_change(answer, number)),
              ("out of service", not in_service(link, answer.nodes))]
     return ", ".join(mark for mark, there in marks if there)
 

@@ -28,8 +28,11 @@ extern "C" {
      statuses   k   on 0: the status of each link, 0 Closed, 1 Open, 2 Active, 3 TempClosed, 4 FixedClosed,
                     5 FixedOpen, 6 XPressure, 7 Xhead
      record    4m   an entry of 4 bytes a trial: a mark of two letters and a number, the lower byte first.
-                    VF link freed, GN node grounded, SG node of number 6, NF place of number 7, OK 0 for the
-                    converged trial, ST 0 for another stepped trial
+                    VF link freed, GN node grounded, SG node of number 6, NF place of number 7, OK for the
+                    converged trial, ST for another stepped trial. The number of OK and ST is 0, or the lowest
+                    link whose status the trial's flow update changed plus 1 in the low byte and the cause in the
+                    high byte: 1 reverse flow, 2 inlet too low, 3 outlet too high, 4 reopened (it had been shut).
+                    What a tank shuts is not told
      scratch 4096   room to work in
    A good sheet has 1 to 64 nodes, 0 to 128 links and 1 to 200 trials, so that 64, 64, 128, 128, 800 and 4,096
    entries are enough for every sheet.

@@ -21,7 +21,8 @@ sys.path[:0] = [TOP, os.path.join(TOP, "tools")]
 
 import sheets
 import verdicts
-from coordinator import (as_json, asking, listings, network, pages, pictures, refusals, sheet_bounds, sheet_text, unsettled)
+from coordinator import (as_json, asking, causes, listings, network, pages, pictures, refusals, sheet_bounds, sheet_text,
+                         unsettled)
 from coordinator.answer import Answer, record_words
 from coordinator.asking import Reply
 from coordinator.drawn import SERVED, allowed
@@ -189,9 +190,43 @@ class Pages(unittest.TestCase):
 
     def test_the_record_in_words(self):
         words = record_words(answer("june-both-repaired"))
-        self.assertEqual([(first, last) for first, last, _ in words], [(1, 1), (2, 12), (13, 13)])
+        self.assertEqual([(first, last) for first, last, _ in words],
+                         [(1, 1), (2, 3), (4, 4), (5, 5), (6, 6), (7, 7), (8, 8), (9, 12), (13, 13)])
         self.assertIn("link 2 (PRV 2 -> 3) was freed", words[0][2])
-        self.assertEqual(words[2][2], "converged")
+        self.assertEqual(words[1][2], "stepped, not yet converged")
+        self.assertEqual(words[2][2], "stepped, not yet converged; the PSV at link 0 opened: its outlet rose above its "
+                                      "setting")
+        self.assertEqual(words[-1][2], "converged")
+
+    def test_every_cause_in_words(self):
+        """Each cause of each kind that has it, in the record and in the links' table."""
+        self.assertEqual(set(causes.WORDS), {(kind, cause) for kind in ("PRV", "PSV") for cause in (1, 2, 3, 4)}
+                         | {("pipe", 4)})
+        for name, words in (("prv-active-under", "the PRV at link 0 opened: its inlet fell below its setting"),
+                            ("B16-prv-open-under", "the PRV at link 0 began to regulate: its outlet rose above its setting"),
+                            ("prv-reverse-Open-past", "the PRV at link 0 closed: water ran backward through it"),
+                            ("prv-closed-inlet-at", "the PRV at link 0 opened again: it had been shut"),
+                            ("psv-active-above", "the PSV at link 0 opened: its outlet rose above its setting"),
+                            ("psv-open-under", "the PSV at link 0 began to regulate: its inlet fell below its setting"),
+                            ("psv-reverse-Active-past", "the PSV at link 0 closed: water ran backward through it"),
+                            ("B16-psv-closed-under", "the PSV at link 1 opened again: it had been shut"),
+                            ("told-pipe-in-ok", "the pipe at link 0 opened again: it had been shut")):
+            found = answer(name)
+            page = pages.page(found, False)
+            self.assertIn("; " + words + "\n", page, name)
+            did, why = causes.deed(found.links, found.changes[0])
+            self.assertIn("%s in trial 1: %s\n" % (did, why), page, name)
+
+    def test_a_tank_that_shuts_a_pipe_again(self):
+        page = pages.page(answer("told-not-by-tank"), False)
+        self.assertIn("TempClosed  changed, was Open, opened again in trial 3: it had been shut, and a tank shut it after that\n",
+                      page)
+
+    def test_a_change_in_json(self):
+        found = json.loads(as_json.document([answer("told-second")]))[0]
+        change = {"cause": 2, "cause_name": "inlet too low", "did": "opened", "why": "its inlet fell below its setting"}
+        self.assertEqual([entry["changed"] for entry in found["record"]], [dict(link=1, **change), None])
+        self.assertEqual([link["changes"] for link in found["links"]], [[], [dict(trial=1, **change)]])
 
     def test_what_goes_into_a_tank_is_no_error(self):
         page = pages.page(answer("tank-overflow"), False)

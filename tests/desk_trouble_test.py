@@ -29,6 +29,15 @@ def shell(line, **settings):
     return done.returncode, done.stderr
 
 
+
+def running(pid):
+    """Whether a process is there and has not ended; one that nobody has waited for yet has."""
+    try:
+        with open("/proc/%d/stat" % pid, encoding="ascii", errors="replace") as stat:
+            return stat.read().rpartition(")")[2].split()[0] != "Z"
+    except (FileNotFoundError, ProcessLookupError):
+        return False
+
 class Folder(unittest.TestCase):
     def setUp(self):
         folder = tempfile.TemporaryDirectory()
@@ -288,8 +297,10 @@ class Builds(Folder):
         said = one.communicate()[1]
         self.assertEqual((one.returncode, said.splitlines()[-1]), (2, "desk: interrupted"))
         self.assertNotIn("Traceback", said)
-        with self.assertRaises(ProcessLookupError):
-            os.kill(int(self.bytes_of("pid")), 0)
+        end = time.monotonic() + 30
+        while running(int(self.bytes_of("pid"))):
+            self.assertLess(time.monotonic(), end, "what was built with runs on")
+            time.sleep(0.02)
 
     def test_without_the_kit(self):
         err, failed = self.without_rt()

@@ -121,6 +121,24 @@ class StoredList(unittest.TestCase):
                 self.assertIsNone(found.balance, case.name)
                 self.assertNotIn("OK", marks, case.name)
 
+    def test_what_each_entry_tells(self):
+        """Document 02, [2]: an ST or OK names a link in service of its sheet, of a kind that has the cause; an OK tells
+        no change that would have kept it from converging; and the list has every cause of every kind."""
+        has = {(kind, cause) for kind in (1, 2) for cause in (1, 2, 3, 4)} | {(0, 4)}
+        seen, in_ok = set(), set()
+        for case in self.cases:
+            told = [entry.split() for entry in self.answers[case.name].record]
+            for mark, number in ((mark, int(number)) for mark, number in told if mark in ("ST", "OK")):
+                if number == 0:
+                    continue
+                links, nodes = records(case.data, b"LK"), records(case.data, b"ND")
+                link = links[number % 256 - 1]
+                self.assertFalse(nodes[link["start"]]["disabled"] or nodes[link["end"]]["disabled"], case.name)
+                seen.add((link["kind"], number // 256))
+                in_ok |= {number // 256} if mark == "OK" else set()
+        self.assertEqual(seen, has)
+        self.assertEqual(in_ok, {4})
+
     def test_balance_of_each_listing(self):
         for case in self.cases:
             found = self.answers[case.name]
@@ -255,7 +273,7 @@ class UnderPressure(unittest.TestCase):
         self.assertAlmostEqual(first.demands[1], 0.5, places=5)
         self.assertAlmostEqual(later.demands[1], 0.0, places=5)
         second = self.answers["pd-whole-at-second-trial"]
-        self.assertEqual(second.record, ["ST 0", "OK 0"])
+        self.assertEqual(second.record, ["ST 769", "OK 0"])  # the PRV sets in: its outlet is too high
         self.assertAlmostEqual(second.heads[1], 10.0, places=6)
         self.assertAlmostEqual(second.demands[1], 0.5, places=5)
 

@@ -42,7 +42,21 @@ def convergence():
                    ["OK 0"] if word == "at" else ["ST 0", "OK 0"])
 
 
-STAYS, MOVES = ["OK 0"], ["ST 0", "OK 0"]
+# why a status changed (document 02, [2])
+REVERSE_FLOW, INLET_TOO_LOW, OUTLET_TOO_HIGH, REOPENED = range(1, 5)
+
+
+def told(cause, link=0):
+    """The number of an ST or OK entry: the lowest link that changed plus 1, and the cause above it."""
+    return link + 1 + 256 * cause
+
+
+def moves(cause, link=0):
+    """The record of a solve in whose first trial a link changes, and nothing after it."""
+    return ["ST %d" % told(cause, link), "OK 0"]
+
+
+STAYS = ["OK 0"]
 
 
 def prv_edge(name, reason, record, status, setting=50.0, head=100.0, demand=0.0, feed=None,
@@ -74,7 +88,7 @@ def reverse_flow():
     """A first flow of exactly minus the tolerance, and just past it."""
     reason = "closes when the flow is below minus the tolerance"
     for word, flow, record in (("at", FLOW_TOLERANCE, STAYS),
-                               ("past", next_up(FLOW_TOLERANCE), MOVES)):
+                               ("past", next_up(FLOW_TOLERANCE), moves(REVERSE_FLOW))):
         for status in ("Active", "Open", "XPressure"):
             name = "reverse-%s-%s" % (status, word)
             yield prv_edge(name, reason, record, status, demand=-flow,
@@ -87,24 +101,24 @@ def prv_edges():
     low, high = 50.0 - HEAD_TOLERANCE, 50.0 + HEAD_TOLERANCE
     reason = "Active opens when the inlet is below the set head less the tolerance"
     yield prv_edge("active-at", reason, STAYS, "Active", head=low)
-    yield prv_edge("active-under", reason, MOVES, "Active", head=next_down(low))
+    yield prv_edge("active-under", reason, moves(INLET_TOO_LOW), "Active", head=next_down(low))
     reason = "Closed becomes Active when the inlet is at the set head and the tolerance, or above"
-    yield prv_edge("closed-inlet-at", reason, MOVES, "Closed", head=high, demand=1e-6)
+    yield prv_edge("closed-inlet-at", reason, moves(REOPENED), "Closed", head=high, demand=1e-6)
     yield prv_edge("closed-inlet-under", reason, STAYS, "Closed", head=next_down(high), demand=1e-6)
     reason = "and the outlet is below the set head less the tolerance"
     # the head that the first trial finds, and the setting that puts it on the edge
     outlet, edge = 39.92600111257046, float.fromhex("0x1.3f69796a51950p+5")
     fed = dict(status="Closed", demand=0.5, feed=40.0)
     yield prv_edge("closed-outlet-at", reason, STAYS, setting=edge, **fed)
-    yield prv_edge("closed-outlet-under", reason, MOVES, setting=next_up(edge), **fed)
+    yield prv_edge("closed-outlet-under", reason, moves(REOPENED), setting=next_up(edge), **fed)
     yield prv_edge("closed-outlet-between", reason, STAYS, setting=outlet, **fed)
     reason = "Closed opens when the inlet is below the set head less the tolerance"
     yield prv_edge("closed-opens-at", reason, STAYS, "Closed", head=low, demand=1e-6)
-    yield prv_edge("closed-opens-under", reason, MOVES, "Closed", head=next_down(low), demand=1e-6)
+    yield prv_edge("closed-opens-under", reason, moves(REOPENED), "Closed", head=next_down(low), demand=1e-6)
     reason = "and above the outlet by more than the tolerance"
     inlet = float.fromhex("0x1.3f6978d4fe453p+5")
     yield prv_edge("closed-opens-level-at", reason, STAYS, head=inlet, setting=80.0, **fed)
-    yield prv_edge("closed-opens-level-above", reason, MOVES, head=next_up(inlet), setting=80.0, **fed)
+    yield prv_edge("closed-opens-level-above", reason, moves(REOPENED), head=next_up(inlet), setting=80.0, **fed)
     yield prv_edge("closed-opens-level-between", reason, STAYS, head=39.926, setting=80.0, **fed)
 
 
@@ -112,23 +126,24 @@ def psv_edges():
     high = 50.0 + HEAD_TOLERANCE
     reason = "Active opens when the outlet is above the set head and the tolerance"
     yield psv_edge("active-at", reason, STAYS, "Active", head=high)
-    yield psv_edge("active-above", reason, MOVES, "Active", head=next_up(high))
+    yield psv_edge("active-above", reason, moves(OUTLET_TOO_HIGH), "Active", head=next_up(high))
     reason = "Open becomes Active when the inlet is below the set head less the tolerance"
     inlet, edge = 25.056206764921505, float.fromhex("0x1.90e8455a4ccc1p+4")
     opened = dict(status="Open", demand=0.5, minor_loss=5.0, flow=0.5)
     yield psv_edge("open-at", reason, STAYS, setting=edge, **opened)
-    yield psv_edge("open-under", reason, MOVES, setting=next_up(edge), **opened)
+    yield psv_edge("open-under", reason, moves(INLET_TOO_LOW), setting=next_up(edge), **opened)
     yield psv_edge("open-between", reason, STAYS, setting=inlet, **opened)
     reason = "Closed opens when the outlet is above the set head and the tolerance, else is Active"
-    yield psv_edge("closed-outlet-at", reason, MOVES, "Closed", head=high)
-    yield psv_edge("closed-outlet-above", reason, MOVES, "Closed", head=next_up(high))
+    yield psv_edge("closed-outlet-at", reason, moves(REOPENED), "Closed", head=high)
+    yield psv_edge("closed-outlet-above", reason, moves(REOPENED), "Closed", head=next_up(high))
     reason = "and the inlet above the outlet by more than the tolerance"
     outlet = 99.92549999999073
     for word, setting in (("opens", 20.0), ("active", 99.9253)):
         fed = dict(status="Closed", setting=setting, demand=0.5)
         yield psv_edge("closed-%s-level-at" % word, reason, STAYS, head=outlet, **fed)
         # it opens, and closes again when the water turns
-        record = ["ST 0"] + MOVES if word == "opens" else MOVES
+        again = moves(REVERSE_FLOW) if word == "opens" else ["OK 0"]
+        record = ["ST %d" % told(REOPENED)] + again
         yield psv_edge("closed-%s-level-under" % word, reason, record, head=next_down(outlet), **fed)
         yield psv_edge("closed-%s-level-between" % word, reason, STAYS, head=99.9257, **fed)
 
@@ -151,7 +166,7 @@ def against_the_stand_in():
         s.junction(demand=0.5)
         s.valve("PRV", 0, 1, setting=setting, status="Open", minor_loss=5.0)
         yield Case("B16-prv-open-" + word, "outlet head against set head and tolerance: `>`", s,
-                   (0, 0), MOVES if word == "under" else STAYS)
+                   (0, 0), moves(OUTLET_TOO_HIGH) if word == "under" else STAYS)
     for word, setting in (("at", float.fromhex("0x1.8fb3b5e24ba4ap+6")),
                           ("under", float.fromhex("0x1.8fb3b5e24ba49p+6"))):
         s = Sheet(accuracy=1e6)
@@ -161,7 +176,7 @@ def against_the_stand_in():
         s.pipe(0, 1)
         s.valve("PSV", 1, 2, setting=setting, status="Closed", flow=0.0)
         yield Case("B16-psv-closed-" + word, "inlet head against set head and tolerance: `>`", s,
-                   (0, 0), MOVES if word == "under" else STAYS)
+                   (0, 0), moves(REOPENED, link=1) if word == "under" else STAYS)
     s = Sheet()
     s.reservoir(head=60.0)
     s.junction(demand=2.0)
@@ -330,7 +345,7 @@ def june_cases():
                (0, 0))
     yield Case("B11-june-not-repaired",
                "the same with another main: one rounding lets it pass, heads arbitrary", june(0.03),
-               (0, 0), ["ST 0", "OK 0"])
+               (0, 0), moves(INLET_TOO_LOW, link=2))
     yield Case("june-fed-repaired", "the June shape below a reservoir", june(0.02, True))
     yield Case("june-fed-not-repaired", "the same, not repaired", june(0.03, True))
     yield Case("june-undetermined",
@@ -367,7 +382,7 @@ def repairs():
                "an island of a triangle and a spur: node 3 is named, a reordering names 2", s)
     yield Case("freed-lowest-active",
                "three regulators at the node, one Closed: the lower Active one alone is freed",
-               three_regulators(0.05), (0, 0), ["VF 1", "ST 0", "ST 0", "OK 0"])
+               three_regulators(0.05), (0, 0), ["VF 1", "ST %d" % told(REVERSE_FLOW, link=1), "ST 0", "OK 0"])
     s = Sheet()
     s.junction()
     s.junction()
@@ -511,7 +526,7 @@ def out_of_service():
         s.pipe(1, 2, flow=flow)
         yield Case("B05-out-of-service-" + word,
                    "a link out of service enters the excess flows once", s, (0, 0),
-                   ["ST 0", "ST 0", "OK 0"] if flow else ["OK 0"])
+                   ["ST %d" % told(REVERSE_FLOW), "ST 0", "OK 0"] if flow else ["OK 0"])
     s = pair()
     basin = s.tank(disabled=1, demand=5.0, elevation=1.0, head=4.0, max_level=9.0)
     s.pipe(1, basin)

@@ -18,6 +18,7 @@ import sys
 
 import product  # noqa: F401
 import sheet_boundary
+import sheet_causes
 import sheet_networks
 import sheet_pressure
 import sheet_refusals
@@ -63,8 +64,8 @@ def stored_pd():
 
 
 def stored():
-    """The cases of the stored list, in order."""
-    return stored_first() + stored_pd()
+    """The cases of the stored list, in order; those of the causes last."""
+    return stored_first() + stored_pd() + sheet_causes.named()
 
 
 def looped():

@@ -4,6 +4,7 @@ use mathlib.Core.List.{List, [], _∷_}
 use lib.Ieee.{inf}
 use mathlib.Core.Bool.{false}
 use Rattle.constants.specs.Constants as constant
+use Rattle.causes.specs.declared.Flip.the-variants.{Nothing}
 use Rattle.damping.specs.declared.steps.Damping.{Damping}
 use Rattle.entries.specs.declared.Entry.{Entry}
 use Rattle.entries.specs.declared.Entry.the-variants.{Freed, Grounded, Singular, Wild, Stepped, Converged}
@@ -23,8 +24,8 @@ goingOf d (Freed i) = On d
 goingOf d (Grounded i) = On d
 goingOf d (Singular i) = Over (Failed i)
 goingOf d (Wild p) = Over (Strayed p)
-goingOf d (Stepped next) = On next
-goingOf d Converged = Over Balanced
+goingOf d (Stepped next flip) = On next
+goingOf d (Converged flip) = Over Balanced
 
 -- trials, freed valves and grounded nodes, with one entry more
 unfoldable pub counted : Tally → Entry → Tally
@@ -32,13 +33,17 @@ counted t (Freed i) = record { trials = t .trials + 1; freed = t .freed + 1; gro
 counted t (Grounded i) = record { trials = t .trials + 1; freed = t .freed; grounded = t .grounded + 1 }
 counted t (Singular i) = record { trials = t .trials + 1; freed = t .freed; grounded = t .grounded }
 counted t (Wild p) = record { trials = t .trials + 1; freed = t .freed; grounded = t .grounded }
-counted t (Stepped next) = record { trials = t .trials + 1; freed = t .freed; grounded = t .grounded }
-counted t Converged = record { trials = t .trials + 1; freed = t .freed; grounded = t .grounded }
+counted t (Stepped next flip) = record { trials = t .trials + 1; freed = t .freed; grounded = t .grounded }
+counted t (Converged flip) = record { trials = t .trials + 1; freed = t .freed; grounded = t .grounded }
 
 unfoldable pub tallied : Tally → List Entry → Tally
 unfolding counted
 tallied t [] = t
 tallied t (e ∷ es) = tallied (counted t e) es
+
+-- what a list of entries is read to hold past its end
+abbrev pub noEntry : Entry
+noEntry = Converged Nothing
 
 abbrev pub none : Tally
 none = record { trials = 0; freed = 0; grounded = 0 }

@@ -2,18 +2,20 @@
 ghost use mathlib.Core.Path.{_≡_};
 ghost use Prim.Native.Nat.{_+_, _<_, _≤_};
 ghost use Rattle.entries.specs.Entries.{dampingStart, goingOf, counted};
+use causes::Flip;
 use damping::Damping;
 use links::LinkIndex;
 use nodes::NodeIndex;
 
-// What a trial came to: VF, GN, SG, NF, ST (with the damping of the next trial), OK.
+// What a trial came to: VF, GN, SG, NF, ST (with the damping of the next trial) and OK, both with the
+// first change of status.
 pub enum Entry {
     Freed(LinkIndex),
     Grounded(NodeIndex),
     Singular(NodeIndex),
     Wild(usize),
-    Stepped(Damping),
-    Converged,
+    Stepped(Damping, Flip),
+    Converged(Flip),
 }
 
 // How a run of trials ended: 0, 6, 7, 8.
@@ -55,8 +57,8 @@ pub fn go(e: Entry, d: Damping) -> Going
         Entry::Grounded(_) => Going::On(d),
         Entry::Singular(n) => Going::Over(Ended::Failed(n)),
         Entry::Wild(p) => Going::Over(Ended::Strayed(p)),
-        Entry::Stepped(next) => Going::On(next),
-        Entry::Converged => Going::Over(Ended::Balanced),
+        Entry::Stepped(next, _) => Going::On(next),
+        Entry::Converged(_) => Going::Over(Ended::Balanced),
     }
 }
 
@@ -90,7 +92,7 @@ pub fn count(t: Tally, e: Entry) -> Tally
         },
         Entry::Singular(_) => one_more(t),
         Entry::Wild(_) => one_more(t),
-        Entry::Stepped(_) => one_more(t),
-        Entry::Converged => one_more(t),
+        Entry::Stepped(_, _) => one_more(t),
+        Entry::Converged(_) => one_more(t),
     }
 }

@@ -3,6 +3,7 @@ ghost use mathlib.Core.Path.{_≡_};
 ghost use Prim.Native.Nat.{_+_, _*_, _<_, _≤_};
 ghost use lib.ListN.{length};
 ghost use Rattle.marks.specs.Marks.{markOf, putOf};
+use causes::flip_number;
 use entries::Entry;
 
 // Two letters and a number.
@@ -17,8 +18,8 @@ pub fn marked(e: Entry) -> Mark
         Entry::Grounded(i) => Mark(71, 78, i.0),
         Entry::Singular(i) => Mark(83, 71, i.0),
         Entry::Wild(p) => Mark(78, 70, p),
-        Entry::Stepped(_) => Mark(83, 84, 0),
-        Entry::Converged => Mark(79, 75, 0),
+        Entry::Stepped(_, flip) => Mark(83, 84, flip_number(flip)),
+        Entry::Converged(flip) => Mark(79, 75, flip_number(flip)),
     }
 }
 

@@ -73,8 +73,10 @@ fn print_change(change: Change) {
         Change::Stays => {
             io::write_all(OUT, b"-");
         }
-        Change::Becomes(status) => {
+        Change::Becomes(status, cause) => {
             io::print_decimal(OUT, records::status_code(status) as u64);
+            space();
+            io::print_decimal(OUT, causes::cause_code(cause) as u64);
         }
     }
 }

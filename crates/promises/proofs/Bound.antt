@@ -170,7 +170,7 @@ module _ (s : List ℕ) (l : Layout) (right : l .unknowns ≡ serving s l (l .no
       record {
         heads = omega (arith, m .heads, solved-long s l x (l .nodes) (t .heads));
         demands = omega (arith, m .demands, tank-demands-long s l h (u .flows) (t .demands) (u .codes));
-        drawn = omega (arith, m .drawn, drawn-long s l h (d .factor) (w .demands) (draws (t .drawn) (u .stats)));
+        drawn = omega (arith, m .drawn, drawn-long s l h (d .factor) (w .demands) (draws (t .drawn) (u .updated .stats)));
         flows = omega (arith, m .flows, update-flows-long s l p (t .flows) (t .statuses));
         statuses = omega (arith, m .statuses, tank-codes-long s l h (u .flows) (t .demands) (u .codes), update-codes-long s l p (t .flows) (t .statuses));
         grounded = m .grounded;

@@ -28,9 +28,10 @@ use Rattle.nodes.specs.declared.NodeIndex.{NodeIndex}
 use Rattle.state.specs.State.{State}
 use Rattle.damping.specs.declared.steps.Damping.{Damping}
 use Rattle.entries.specs.declared.Entry.{Entry}
+use Rattle.causes.specs.declared.Flip.{Flip}
 use Rattle.entries.specs.declared.Entry.the-variants.{Freed, Grounded, Singular, Wild, Stepped, Converged}
 use Rattle.trial.specs.Trial.{Outcome, repairOf}
-use Rattle.entries.specs.Entries.{goingOf, none, tallied}
+use Rattle.entries.specs.Entries.{goingOf, none, tallied, noEntry}
 use Rattle.marks.specs.Marks.{written}
 use Rattle.entries.specs.declared.Ended.{Ended}
 use Rattle.entries.specs.declared.Ended.the-variants.{Balanced, Failed, Strayed, Limit}
@@ -201,8 +202,8 @@ going-end d d' (Freed i) h = refl
 going-end d d' (Grounded i) h = refl
 going-end d d' (Singular i) h = other (cc)
 going-end d d' (Wild p) h = other (cc)
-going-end d d' (Stepped x) h = refl
-going-end d d' Converged h = other (cc)
+going-end d d' (Stepped x flip) h = refl
+going-end d d' (Converged flip) h = other (cc)
 
 over-end : (d : Damping) (z : Ended) (e : Entry) → goingOf d e ≡ Over z → endBy e ≡ z
 unfolding goingOf endBy
@@ -210,8 +211,8 @@ over-end d z (Freed i) h = other (cc)
 over-end d z (Grounded i) h = other (cc)
 over-end d z (Singular i) h = cc
 over-end d z (Wild p) h = cc
-over-end d z (Stepped x) h = other (cc)
-over-end d z Converged h = cc
+over-end d z (Stepped x flip) h = other (cc)
+over-end d z (Converged flip) h = cc
 
 over-limit : (d : Damping) (e : Entry) → goingOf d e ≡ Over Limit → ⊥
 unfolding goingOf
@@ -219,20 +220,20 @@ over-limit d (Freed i) h = other (cc)
 over-limit d (Grounded i) h = other (cc)
 over-limit d (Singular i) h = other (cc)
 over-limit d (Wild p) h = other (cc)
-over-limit d (Stepped x) h = other (cc)
-over-limit d Converged h = other (cc)
+over-limit d (Stepped x flip) h = other (cc)
+over-limit d (Converged flip) h = other (cc)
 
-last-on : (e : Entry) (es : List Entry) (z : Ended) → 1 ≤ length es → z ≡ endBy (getD es (length es - 1) Converged) → z ≡ endBy (getD (e ∷ es) (length (e ∷ es) - 1) Converged)
+last-on : (e : Entry) (es : List Entry) (z : Ended) → 1 ≤ length es → z ≡ endBy (getD es (length es - 1) noEntry) → z ≡ endBy (getD (e ∷ es) (length (e ∷ es) - 1) noEntry)
 last-on e es z h q =
     let p : length (e ∷ es) - 1 ≡ suc (length es - 1) = omega arith in
     rw p q
 
-last-one : (e : Entry) → endBy (getD (e ∷ []) (length (e ∷ []) - 1) Converged) ≡ endBy e
+last-one : (e : Entry) → endBy (getD (e ∷ []) (length (e ∷ []) - 1) noEntry) ≡ endBy e
 last-one e = refl
 
 module _ (s : List ℕ) (l : Layout) where
   last-of : (m : ℕ) (d d' : Damping) (e : Entry) (t : State) → goingOf d e ≡ On d' → EndsBy m (runWith repairOf s l m d' t)
-      → runWith repairOf s l m d' t .ended ≡ endBy (getD (e ∷ runWith repairOf s l m d' t .entries) (length (e ∷ runWith repairOf s l m d' t .entries) - 1) Converged)
+      → runWith repairOf s l m d' t .ended ≡ endBy (getD (e ∷ runWith repairOf s l m d' t .entries) (length (e ∷ runWith repairOf s l m d' t .entries) - 1) noEntry)
   unfolding runWith
   last-of zero d d' e t g w = sym (last-one e ∙ going-end d d' e g)
   last-of (suc m) d d' e t g w =
@@ -256,7 +257,7 @@ module _ (s : List ℕ) (l : Layout) where
           }
         where
           onward : EndsBy m (runWith repairOf s l m d' (o .state)) → (i : ℕ) → suc i < length (o .entry ∷ runWith repairOf s l m d' (o .state) .entries)
-              → endBy (getD (o .entry ∷ runWith repairOf s l m d' (o .state) .entries) i Converged) ≡ Limit
+              → endBy (getD (o .entry ∷ runWith repairOf s l m d' (o .state) .entries) i noEntry) ≡ Limit
           onward w zero h = going-end (p .damping) d' (o .entry) e
           onward w (suc i) h = w .on i (omega arith)
       go o (Over z) e ih =
@@ -290,14 +291,14 @@ runs-a-trial s x l w = omega (arith, trials-are s x l w, solve-ends-by s l .some
 
 -- ---- what the last trial came to
 
-by-converged : (e : Entry) → endBy e ≡ Balanced → e ≡ Converged
+by-converged : (e : Entry) → endBy e ≡ Balanced → (flip : Flip) × (e ≡ Converged flip)
 unfolding endBy
 by-converged (Freed i) h = other (cc)
 by-converged (Grounded i) h = other (cc)
 by-converged (Singular i) h = other (cc)
 by-converged (Wild p) h = other (cc)
-by-converged (Stepped d) h = other (cc)
-by-converged Converged h = refl
+by-converged (Stepped d flip) h = other (cc)
+by-converged (Converged flip) h = (flip, refl)
 
 by-failed : (v : NodeIndex) (e : Entry) → endBy e ≡ Failed v → e ≡ Singular v
 unfolding endBy
@@ -305,8 +306,8 @@ by-failed v (Freed i) h = other (cc)
 by-failed v (Grounded i) h = other (cc)
 by-failed v (Singular i) h = cc
 by-failed v (Wild p) h = other (cc)
-by-failed v (Stepped d) h = other (cc)
-by-failed v Converged h = other (cc)
+by-failed v (Stepped d flip) h = other (cc)
+by-failed v (Converged flip) h = other (cc)
 
 by-strayed : (q : ℕ) (e : Entry) → endBy e ≡ Strayed q → e ≡ Wild q
 unfolding endBy
@@ -314,8 +315,8 @@ by-strayed q (Freed i) h = other (cc)
 by-strayed q (Grounded i) h = other (cc)
 by-strayed q (Singular i) h = other (cc)
 by-strayed q (Wild p) h = cc
-by-strayed q (Stepped d) h = other (cc)
-by-strayed q Converged h = other (cc)
+by-strayed q (Stepped d flip) h = other (cc)
+by-strayed q (Converged flip) h = other (cc)
 
 module _ (s : List ℕ) (x : Lent) (l : Layout) (w : Runs s x l) where
   last-tells : (z : Ended) → runIn s l .ended ≡ z → endBy (lastIn s l) ≡ z
@@ -326,7 +327,7 @@ module _ (s : List ℕ) (x : Lent) (l : Layout) (w : Runs s x l) where
   unfolding lastIn beforeLast
   last-is = solve-each-entry s l (length (runIn s l .entries) - 1) (omega (arith, solve-ends-by s l .some (some-trials s l (w .read))))
 
-  at-converged : (z : Ended) → runIn s l .ended ≡ z → endNumber z ≡ 0 → lastIn s l ≡ Converged
+  at-converged : (z : Ended) → runIn s l .ended ≡ z → endNumber z ≡ 0 → (flip : Flip) × (lastIn s l ≡ Converged flip)
   unfolding endNumber
   at-converged Balanced e h = by-converged (lastIn s l) (last-tells Balanced e)
   at-converged (Failed v) e h = absurd (let y : ⊥ = omega arith in y)
@@ -367,8 +368,8 @@ of-run s x P c low f a = go (solveOf s x .answer .number) (solveOf s x .answer .
 
 module _ (s : List ℕ) (x : Lent) where
   -- 0: the last trial converged.
-  pub zero-converged : solveOf s x .answer .number ≡ 0 → (l : Layout) × (Runs s x l × (lastIn s l ≡ Converged))
-  zero-converged = of-run s x (λ l p. lastIn s l ≡ Converged) 0 (inl refl) (λ l w a. at-converged s x l w (runIn s l .ended) refl a)
+  pub zero-converged : solveOf s x .answer .number ≡ 0 → (l : Layout) × (Runs s x l × ((flip : Flip) × (lastIn s l ≡ Converged flip)))
+  zero-converged = of-run s x (λ l p. (flip : Flip) × (lastIn s l ≡ Converged flip)) 0 (inl refl) (λ l w a. at-converged s x l w (runIn s l .ended) refl a)
 
   -- 6: the last trial's factorization stopped at the place, which no Active PRV or PSV touches and which is grounded already.
   pub six-singular : solveOf s x .answer .number ≡ 6 → (l : Layout) × (Runs s x l × Refuses s l (beforeLast s l .state) (solveOf s x .answer .place))

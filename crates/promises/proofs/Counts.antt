@@ -24,9 +24,13 @@ use Rattle.links.specs.declared.LinkIndex.{LinkIndex}
 use Rattle.nodes.specs.declared.NodeIndex.{NodeIndex}
 use Rattle.damping.specs.declared.steps.Damping.{Damping}
 use Rattle.entries.specs.declared.Entry.{Entry}
+use Rattle.causes.specs.declared.Flip.{Flip}
+use Rattle.causes.specs.declared.Flip.the-variants as flip
+use Rattle.causes.specs.Causes.{flipNumber}
+use Rattle.causes.proofs.Laws.{cause-small}
 use Rattle.entries.specs.declared.Entry.the-variants.{Freed, Grounded, Singular, Wild, Stepped, Converged}
 use Rattle.trial.specs.Trial.{repairOf, judged, stepEntry, stepOf, trialOf}
-use Rattle.entries.specs.Entries.{counted, tallied, none}
+use Rattle.entries.specs.Entries.{counted, tallied, none, noEntry}
 use Rattle.marks.specs.Marks.{markOf, putOf, written}
 use Rattle.entries.specs.declared.Ended.{Ended}
 use Rattle.entries.specs.declared.Ended.the-variants.{Balanced, Failed, Strayed, Limit}
@@ -123,7 +127,7 @@ unfolding written
 written-past [] i r p h = refl
 written-past (e ∷ es) i r p h = written-past es (suc i) (putOf r i (markOf e)) p (omega arith) ∙ put-past r i (markOf e) p (omega arith)
 
-pub written-shows : (es : List Entry) (i : ℕ) (r : List ℕ) → 4 * (i + length es) ≤ length r → (j : ℕ) → j < length es → Shown (written i es r) (i + j) (getD es j Converged)
+pub written-shows : (es : List Entry) (i : ℕ) (r : List ℕ) → 4 * (i + length es) ≤ length r → (j : ℕ) → j < length es → Shown (written i es r) (i + j) (getD es j noEntry)
 unfolding written
 written-shows [] i r h j x = absurd (let y : ⊥ = omega arith in y)
 written-shows (e ∷ es) i r h zero x =
@@ -161,7 +165,7 @@ count-front (suc n) f = rw (count-front n f) (go (f (suc n)) (f 0) (count n (λ 
     go false true c = refl
     go false false c = refl
 
-count-entries : (a b : ℕ) (es : List Entry) (f : ℕ → Bool) → ((j : ℕ) → j < length es → f j ≡ has a b (getD es j Converged)) → count (length es) f ≡ having a b es
+count-entries : (a b : ℕ) (es : List Entry) (f : ℕ → Bool) → ((j : ℕ) → j < length es → f j ≡ has a b (getD es j noEntry)) → count (length es) f ≡ having a b es
 unfolding having count
 count-entries a b [] f h = refl
 count-entries a b (e ∷ es) f h =
@@ -187,8 +191,8 @@ agrees t (Freed i ∷ es) = let h = agrees (counted t (Freed i)) es in record { 
 agrees t (Grounded i ∷ es) = let h = agrees (counted t (Grounded i)) es in record { freed = omega arith; grounded = omega arith }
 agrees t (Singular i ∷ es) = let h = agrees (counted t (Singular i)) es in record { freed = omega arith; grounded = omega arith }
 agrees t (Wild p ∷ es) = let h = agrees (counted t (Wild p)) es in record { freed = omega arith; grounded = omega arith }
-agrees t (Stepped d ∷ es) = let h = agrees (counted t (Stepped d)) es in record { freed = omega arith; grounded = omega arith }
-agrees t (Converged ∷ es) = let h = agrees (counted t Converged) es in record { freed = omega arith; grounded = omega arith }
+agrees t (Stepped d flip ∷ es) = let h = agrees (counted t (Stepped d flip)) es in record { freed = omega arith; grounded = omega arith }
+agrees t (Converged flip ∷ es) = let h = agrees (counted t (Converged flip)) es in record { freed = omega arith; grounded = omega arith }
 
 -- ---- the whole solve
 
@@ -244,10 +248,10 @@ module _ (s : List ℕ) (x : Lent) where
     trials-are = in-solve l w (λ trials freed grounded bytes. trials ≡ length (runIn s l .entries)) (omega (arith, tallied-trials none (runIn s l .entries)))
 
     -- Every trial's entry stands in the record, in its place.
-    pub shown : (i : ℕ) → i < length (runIn s l .entries) → Shown (solveOf s x .lent .entries) i (getD (runIn s l .entries) i Converged)
+    pub shown : (i : ℕ) → i < length (runIn s l .entries) → Shown (solveOf s x .lent .entries) i (getD (runIn s l .entries) i noEntry)
     shown i h =
         let p : 0 + i ≡ i = omega arith in
-        in-solve l w (λ trials freed grounded bytes. Shown bytes i (getD (runIn s l .entries) i Converged))
+        in-solve l w (λ trials freed grounded bytes. Shown bytes i (getD (runIn s l .entries) i noEntry))
         (rw p at (written-shows (runIn s l .entries) 0 (x .entries) (omega (arith, room l w)) i h))
 
 -- ---- the record shows no other repair
@@ -263,8 +267,8 @@ vf (Freed j) h = (j, refl)
 vf (Grounded v) h = never h
 vf (Singular v) h = never h
 vf (Wild p) h = never h
-vf (Stepped d) h = never h
-vf Converged h = never h
+vf (Stepped d flip) h = never h
+vf (Converged flip) h = never h
 
 gn : (e : Entry) → has 71 78 e ≡ true → (v : NodeIndex) × (e ≡ Grounded v)
 unfolding has markOf
@@ -272,47 +276,52 @@ gn (Freed j) h = never h
 gn (Grounded v) h = (v, refl)
 gn (Singular v) h = never h
 gn (Wild p) h = never h
-gn (Stepped d) h = never h
-gn Converged h = never h
+gn (Stepped d flip) h = never h
+gn (Converged flip) h = never h
 
 module _ (s : List ℕ) (x : Lent) (l : Layout) (w : Runs s x l) (i : ℕ) (h : i < length (runIn s l .entries)) where
   -- An entry marked VF is that of a trial that freed a valve, and one marked GN that of a trial that grounded a node: the record shows no other repair.
-  pub vf-freed : marked 86 70 (solveOf s x .lent .entries) i ≡ true → (j : LinkIndex) × (getD (runIn s l .entries) i Converged ≡ Freed j)
-  vf-freed e = vf (getD (runIn s l .entries) i Converged) (sym (shows (solveOf s x .lent .entries) i (getD (runIn s l .entries) i Converged) (shown s x l w i h) 86 70) ∙ e)
+  pub vf-freed : marked 86 70 (solveOf s x .lent .entries) i ≡ true → (j : LinkIndex) × (getD (runIn s l .entries) i noEntry ≡ Freed j)
+  vf-freed e = vf (getD (runIn s l .entries) i noEntry) (sym (shows (solveOf s x .lent .entries) i (getD (runIn s l .entries) i noEntry) (shown s x l w i h) 86 70) ∙ e)
 
-  pub gn-grounded : marked 71 78 (solveOf s x .lent .entries) i ≡ true → (v : NodeIndex) × (getD (runIn s l .entries) i Converged ≡ Grounded v)
-  gn-grounded e = gn (getD (runIn s l .entries) i Converged) (sym (shows (solveOf s x .lent .entries) i (getD (runIn s l .entries) i Converged) (shown s x l w i h) 71 78) ∙ e)
+  pub gn-grounded : marked 71 78 (solveOf s x .lent .entries) i ≡ true → (v : NodeIndex) × (getD (runIn s l .entries) i noEntry ≡ Grounded v)
+  gn-grounded e = gn (getD (runIn s l .entries) i noEntry) (sym (shows (solveOf s x .lent .entries) i (getD (runIn s l .entries) i noEntry) (shown s x l w i h) 71 78) ∙ e)
 
--- ---- the two bytes hold the number: it is below 320
+-- ---- the two bytes hold the number: it is below 1280
 
-judged-small : (o : Options) (d : Damping) (m : Stats) → markOf (judged o d m) .2 < 320
+told-small : (flip : Flip) → flipNumber flip < 1280
+unfolding flipNumber
+told-small flip.Nothing = omega arith
+told-small (flip.Link i c) = omega (arith, cause-small c)
+
+judged-small : (o : Options) (d : Damping) (m : Stats) (flip : Flip) → markOf (judged o d m flip) .2 < 1280
 unfolding judged markOf
-judged-small o d m = go (convergedOf (relativeChange (m .moved) (m .total) (o .accuracy)) (o .accuracy) (m .changed) (m .largest) (o .unit) (o .change)) _
+judged-small o d m flip = go (convergedOf (relativeChange (m .moved) (m .total) (o .accuracy)) (o .accuracy) (m .changed) (m .largest) (o .unit) (o .change)) _
   where
-    go : (b : Bool) (x : Damping) → markOf (cond b Converged (Stepped x)) .2 < 320
-    go true x = omega arith
-    go false x = omega arith
+    go : (b : Bool) (x : Damping) → markOf (cond b (Converged flip) (Stepped x flip)) .2 < 1280
+    go true x = told-small flip
+    go false x = told-small flip
 
-entry-small : (f : Found) (o : Options) (d : Damping) (m : Stats) → ((p : ℕ) → f ≡ At p → p < 320) → markOf (stepEntry f o d m) .2 < 320
+entry-small : (f : Found) (o : Options) (d : Damping) (m : Stats) (flip : Flip) → ((p : ℕ) → f ≡ At p → p < 320) → markOf (stepEntry f o d m flip) .2 < 1280
 unfolding stepEntry markOf
-entry-small (At p) o d m h = h p refl
-entry-small Nothing o d m h = judged-small o d m
+entry-small (At p) o d m flip h = omega (arith, h p refl)
+entry-small Nothing o d m flip h = judged-small o d m flip
 
 module _ (s : List ℕ) (l : Layout) (d : Damping) (t : State) (net : Network l s) where
-  step-small : (g y x : List Float) → markOf (stepOf s l d t g y x .entry) .2 < 320
+  step-small : (g y x : List Float) → markOf (stepOf s l d t g y x .entry) .2 < 1280
   step-small g y x =
-      repairs.step-entry s l d t g y x (λ e. markOf e .2 < 320) (λ h q f m. entry-small (wildPlace l h q f) (optionsOf s) d m (λ p e. wild-below l h q f p (net .nodes) (net .links) e))
+      repairs.step-entry s l d t g y x (λ e. markOf e .2 < 1280) (λ h q f m flip. entry-small (wildPlace l h q f) (optionsOf s) d m flip (λ p e. wild-below l h q f p (net .nodes) (net .links) e))
 
-  trial-small : markOf (trialOf s l d t .entry) .2 < 320
+  trial-small : markOf (trialOf s l d t .entry) .2 < 1280
   unfolding markOf
   trial-small =
-      repairs.ways s l d t (λ o. markOf (o .entry) .2 < 320)
+      repairs.ways s l d t (λ o. markOf (o .entry) .2 < 1280)
       (λ j w. omega (arith, w .lowest .one, net .links)) (λ v w. omega (arith, stop-node s l (net .unknowns) t v (w .stops) .0, net .nodes))
       (λ v w. omega (arith, stop-node s l (net .unknowns) t v (w .stops) .0, net .nodes)) step-small
 
 -- An entry's number can be read from its two bytes, the lower first.
 pub number-shown : (s : List ℕ) (x : Lent) (l : Layout) → Runs s x l → (i : ℕ) → i < length (runIn s l .entries)
-    → getD (solveOf s x .lent .entries) (4 * i + 2) 0 + 256 * getD (solveOf s x .lent .entries) (4 * i + 3) 0 ≡ markOf (getD (runIn s l .entries) i Converged) .2
+    → getD (solveOf s x .lent .entries) (4 * i + 2) 0 + 256 * getD (solveOf s x .lent .entries) (4 * i + 3) 0 ≡ markOf (getD (runIn s l .entries) i noEntry) .2
 number-shown s x l w i h =
     let y = shown s x l w i h in
     let c = network-of s l (w .read) in

@@ -16,3 +16,4 @@ pub mod One
 pub mod Quick
 pub mod Example
 pub mod Sold
+pub mod Flips

@@ -12,7 +12,8 @@ use Rattle.layout.specs.declared.places.Layout.{Layout}
 use Rattle.sheet.specs.declared.reading.Reading.the-variants.{Good}
 use Rattle.nodes.specs.declared.NodeIndex.{NodeIndex}
 use Rattle.state.specs.State.{State}
-use Rattle.entries.specs.declared.Entry.the-variants.{Grounded, Converged}
+use Rattle.entries.specs.Entries.{noEntry}
+use Rattle.entries.specs.declared.Entry.the-variants.{Grounded}
 use Rattle.trial.specs.Trial.{Room, Outcome, stepOf}
 use Rattle.solver.specs.Solve.{trialsOf}
 use Rattle.promises.specs.Repairs.{Grounds}
@@ -50,7 +51,7 @@ module _ (s : List ℕ) (l : Layout) where
 
   -- so no two entries of a run ground one node. For every number of nodes, links and trials.
   pub grounded-once : l .unknowns ≡ serving s l (l .nodes) → (m : ℕ) (p : Point) → Room l (p .state) → (v : NodeIndex) (i j : ℕ) → i < j → j < length (runAt s l m p .entries)
-      → getD (runAt s l m p .entries) i Converged ≡ Grounded v → getD (runAt s l m p .entries) j Converged ≡ Grounded v → ⊥
+      → getD (runAt s l m p .entries) i noEntry ≡ Grounded v → getD (runAt s l m p .entries) j noEntry ≡ Grounded v → ⊥
   grounded-once right m p w v i j z h a b =
       let x = afterTrials s l i p in
       let y = afterTrials s l j p in
@@ -62,6 +63,6 @@ module _ (s : List ℕ) (l : Layout) where
 
 -- Of the solve of any sheet.
 pub solve-grounded-once : (s : List ℕ) (l : Layout) → readOf s ≡ Good l → (v : NodeIndex) (i j : ℕ) → i < j → j < length (runIn s l .entries)
-    → getD (runIn s l .entries) i Converged ≡ Grounded v → getD (runIn s l .entries) j Converged ≡ Grounded v → ⊥
+    → getD (runIn s l .entries) i noEntry ≡ Grounded v → getD (runIn s l .entries) j noEntry ≡ Grounded v → ⊥
 unfolding runIn startPoint
 solve-grounded-once s l e = grounded-once s l (network-of s l e .unknowns) (trialsOf s) (startPoint s l) (start-room s l e)

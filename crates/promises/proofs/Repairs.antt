@@ -32,6 +32,7 @@ use Rattle.update.specs.Update.{basis, updateOf}
 use Rattle.update.specs.declared.Stats.{Stats}
 use Rattle.repair.specs.Repair.{touches, regulatesAt, regulatorFrom, regulatorAt}
 use Rattle.entries.specs.declared.Entry.{Entry}
+use Rattle.causes.specs.declared.Flip.{Flip}
 use Rattle.entries.specs.declared.Entry.the-variants.{Freed, Grounded, Singular, Stepped, Converged}
 use Rattle.damping.specs.declared.steps.Damping.{Damping}
 use Rattle.links.specs.declared.LinkIndex.{LinkIndex}
@@ -106,32 +107,32 @@ regulates s l codes node j e =
 
 -- ---- the ways of a trial
 
-judged-steps : (o : Options) (d : Damping) (m : Stats) → fails (judged o d m) ≡ false
+judged-steps : (o : Options) (d : Damping) (m : Stats) (flip : Flip) → fails (judged o d m flip) ≡ false
 unfolding judged fails
-judged-steps o d m = go (convergedOf (relativeChange (m .moved) (m .total) (o .accuracy)) (o .accuracy) (m .changed) (m .largest) (o .unit) (o .change)) _
+judged-steps o d m flip = go (convergedOf (relativeChange (m .moved) (m .total) (o .accuracy)) (o .accuracy) (m .changed) (m .largest) (o .unit) (o .change)) _
   where
-    go : (b : Bool) (x : Damping) → fails (cond b Converged (Stepped x)) ≡ false
+    go : (b : Bool) (x : Damping) → fails (cond b (Converged flip) (Stepped x flip)) ≡ false
     go true x = refl
     go false x = refl
 
-entry-steps : (f : Found) (o : Options) (d : Damping) (m : Stats) → fails (stepEntry f o d m) ≡ false
+entry-steps : (f : Found) (o : Options) (d : Damping) (m : Stats) (flip : Flip) → fails (stepEntry f o d m flip) ≡ false
 unfolding stepEntry fails
-entry-steps (At p) o d m = refl
-entry-steps Nothing o d m = judged-steps o d m
+entry-steps (At p) o d m flip = refl
+entry-steps Nothing o d m flip = judged-steps o d m flip
 
 module _ (s : List ℕ) (l : Layout) (d : Damping) (t : State) where
   -- what a step comes to is an entry: whatever holds of every such entry holds of it
-  pub step-entry : (g y x : List Float) (P : Entry → Type 0) → ((h q f : List Float) (m : Stats) → P (stepEntry (wildPlace l h q f) (optionsOf s) d m)) → P (stepOf s l d t g y x .entry)
+  pub step-entry : (g y x : List Float) (P : Entry → Type 0) → ((h q f : List Float) (m : Stats) (flip : Flip) → P (stepEntry (wildPlace l h q f) (optionsOf s) d m flip)) → P (stepOf s l d t g y x .entry)
   unfolding stepOf
   step-entry g y x P each =
       let h = solvedHeads s l x (l .nodes) (t .heads) in
       let u = updateOf s l (basis h g y (d .factor)) (t .flows) (t .statuses) in
-      let f = drawnOf s l h (d .factor) (tankLinksOf s l h (u .flows) (t .demands) (u .codes) .demands) (draws (t .drawn) (u .stats)) in
-      each h (u .flows) (f .drawn) (f .stats)
+      let f = drawnOf s l h (d .factor) (tankLinksOf s l h (u .flows) (t .demands) (u .codes) .demands) (draws (t .drawn) (u .updated .stats)) in
+      each h (u .flows) (f .drawn) (f .stats) (u .updated .flip)
 
   -- a step is no failure
   pub step-holds : (g y x : List Float) → fails (stepOf s l d t g y x .entry) ≡ false
-  step-holds g y x = step-entry g y x (λ e. fails e ≡ false) (λ h q f m. entry-steps (wildPlace l h q f) (optionsOf s) d m)
+  step-holds g y x = step-entry g y x (λ e. fails e ≡ false) (λ h q f m flip. entry-steps (wildPlace l h q f) (optionsOf s) d m flip)
 
   stopped : (v : ℕ) (a : System) (z : List Float) (f : Factored) → stopNode s l f ≡ At v → factored repairOf s l d t a z f ≡ repairOf s l t v
   unfolding factored stopNode
@@ -166,14 +167,14 @@ module _ (s : List ℕ) (l : Layout) (d : Damping) (t : State) where
   unfolding repairOf
   refuses v w = stops v (w .stops) ∙ rw (← repair-singular s l (t .statuses) v (t .grounded) (found-none s l (t .statuses) v (w .none)) (w .already))
 
-  -- whatever holds of each of the four ways holds of a trial
-  pub ways : (P : Outcome → Type 0)
+  -- whatever holds of each of the four ways holds of a trial: three repairs, and the step by the state's own system
+  pub each-way : (P : Outcome → Type 0)
       → ((j : ℕ) → Frees s l t j → P (outcome (Freed (record { 0 = j })) (freedIn t j)))
       → ((v : ℕ) → Grounds s l t v → P (outcome (Grounded (record { 0 = v })) (groundedIn t v)))
       → ((v : ℕ) → Refuses s l t v → P (outcome (Singular (record { 0 = v })) t))
-      → ((g y x : List Float) → P (stepOf s l d t g y x))
+      → P (stepOf s l d t (systemOf s l t .g) (systemOf s l t .y) (solved (factorsOf s l t) (l .unknowns) (systemOf s l t .rhs)))
       → P (trialOf s l d t)
-  ways P free ground refuse step = go (stopOf s l t) refl
+  each-way P free ground refuse step = go (stopOf s l t) refl
     where
       marked : (v : ℕ) → stopOf s l t ≡ At v → regulatorAt s l (t .statuses) v ≡ Nothing → (b : Bool) → getD (t .grounded) v false ≡ b → P (trialOf s l d t)
       marked v e r true g = let w : Refuses s l t v = record { stops = e; none = none-at s l (t .statuses) v r; already = g } in rw (refuses v w) (refuse v w)
@@ -185,7 +186,16 @@ module _ (s : List ℕ) (l : Layout) (d : Damping) (t : State) where
 
       go : (f : Found) → stopOf s l t ≡ f → P (trialOf s l d t)
       go (At v) e = freed v e (regulatorAt s l (t .statuses) v) refl
-      go Nothing e = rw (steps e) (step (systemOf s l t .g) (systemOf s l t .y) (solved (factorsOf s l t) (l .unknowns) (systemOf s l t .rhs)))
+      go Nothing e = rw (steps e) step
+
+  -- the same where it matters not by which system the step goes
+  pub ways : (P : Outcome → Type 0)
+      → ((j : ℕ) → Frees s l t j → P (outcome (Freed (record { 0 = j })) (freedIn t j)))
+      → ((v : ℕ) → Grounds s l t v → P (outcome (Grounded (record { 0 = v })) (groundedIn t v)))
+      → ((v : ℕ) → Refuses s l t v → P (outcome (Singular (record { 0 = v })) t))
+      → ((g y x : List Float) → P (stepOf s l d t g y x))
+      → P (trialOf s l d t)
+  ways P free ground refuse step = each-way P free ground refuse (step (systemOf s l t .g) (systemOf s l t .y) (solved (factorsOf s l t) (l .unknowns) (systemOf s l t .rhs)))
 
   -- No other valve is ever freed, no other node grounded or refused.
   pub freed-only : (j : LinkIndex) → trialOf s l d t .entry ≡ Freed j → Frees s l t (j .0)

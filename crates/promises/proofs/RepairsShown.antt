@@ -10,6 +10,7 @@ use Rattle.found.specs.Searches.{First, firstOf}
 use Rattle.found.specs.declared.Found.the-variants.{At, Nothing}
 use Rattle.found.proofs.Firsts.{first-is, first-none}
 use Rattle.layout.specs.declared.places.Layout.{Layout}
+use Rattle.entries.specs.Entries.{noEntry}
 use Rattle.entries.specs.declared.Entry.{Entry}
 use Rattle.entries.specs.declared.Entry.the-variants.{Freed, Grounded, Singular, Wild, Stepped, Converged}
 use Rattle.marks.specs.Marks.{markOf, written}
@@ -37,8 +38,8 @@ mends-is (Freed j) = refl
 mends-is (Grounded v) = refl
 mends-is (Singular v) = refl
 mends-is (Wild p) = refl
-mends-is (Stepped d) = refl
-mends-is Converged = refl
+mends-is (Stepped d flip) = refl
+mends-is (Converged flip) = refl
 
 shows-is : (bytes : List ℕ) (i : ℕ) (e : Entry) → Shown bytes i e → shows bytes i ≡ isRepair e
 unfolding shows isRepair
@@ -48,17 +49,17 @@ pub shows-mends : (bytes : List ℕ) (i : ℕ) (e : Entry) → Shown bytes i e �
 shows-mends bytes i e w = shows-is bytes i e w ∙ mends-is e
 
 -- Of a record of these entries: its bytes show a repair at i exactly where entry i is one.
-pub written-mends : (es : List Entry) (r : List ℕ) → 4 * length es ≤ length r → (i : ℕ) → i < length es → shows (written 0 es r) i ≡ mends (getD es i Converged)
+pub written-mends : (es : List Entry) (r : List ℕ) → 4 * length es ≤ length r → (i : ℕ) → i < length es → shows (written 0 es r) i ≡ mends (getD es i noEntry)
 written-mends es r long i h =
     let p : 0 + i ≡ i = omega arith in
-    shows-mends (written 0 es r) i (getD es i Converged) (rw p at (written-shows es 0 r (omega arith) i h))
+    shows-mends (written 0 es r) i (getD es i noEntry) (rw p at (written-shows es 0 r (omega arith) i h))
 
 -- ---- any solve that comes to its trials
 
 module _ (s : List ℕ) (x : Lent) (l : Layout) (w : Runs s x l) where
   pub solve-mends : (i : ℕ) → i < length (runIn s l .entries) → shows (solveOf s x .lent .entries) i ≡ mended s l i
   unfolding mended
-  solve-mends i h = shows-mends (solveOf s x .lent .entries) i (getD (runIn s l .entries) i Converged) (shown s x l w i h)
+  solve-mends i h = shows-mends (solveOf s x .lent .entries) i (getD (runIn s l .entries) i noEntry) (shown s x l w i h)
 
   search-is : repairShown (solveOf s x .lent .entries) (solveOf s x .answer .trials) ≡ firstOf (shows (solveOf s x .lent .entries)) (length (runIn s l .entries))
   unfolding repairShown

@@ -24,8 +24,9 @@ use Rattle.sheet.specs.declared.reading.Reading.{Reading}
 use Rattle.sheet.specs.declared.reading.Reading.the-variants.{Good, Refused}
 use Rattle.links.specs.declared.LinkIndex.{LinkIndex}
 use Rattle.nodes.specs.declared.NodeIndex.{NodeIndex}
+use Rattle.entries.specs.Entries.{noEntry}
 use Rattle.entries.specs.declared.Entry.{Entry}
-use Rattle.entries.specs.declared.Entry.the-variants.{Freed, Grounded, Converged}
+use Rattle.entries.specs.declared.Entry.the-variants.{Freed, Grounded}
 use Rattle.answers.specs.Answers.{Lent, Solved}
 use Rattle.solver.specs.Solve.{solveOf}
 use Rattle.solver.proofs.Laws.{network-of}
@@ -258,7 +259,7 @@ module _ (s : List ℕ) (limits : Limits) (x : Lent) where
 
 -- ---- June
 
-freed-mends : (s : List ℕ) (l : Layout) (i : ℕ) (e : Entry) → getD (runIn s l .entries) i Converged ≡ e → mends e ≡ true → mended s l i ≡ true
+freed-mends : (s : List ℕ) (l : Layout) (i : ℕ) (e : Entry) → getD (runIn s l .entries) i noEntry ≡ e → mends e ≡ true → mended s l i ≡ true
 unfolding mended
 freed-mends s l i e h m = rw h m
 

@@ -22,9 +22,10 @@ use Rattle.update.specs.Update.{basis, updateOf}
 use Rattle.update.specs.declared.Stats.{Stats}
 use Rattle.damping.specs.declared.steps.Damping.{Damping}
 use Rattle.entries.specs.declared.Entry.{Entry}
+use Rattle.causes.specs.declared.Flip.{Flip}
 use Rattle.entries.specs.declared.Entry.the-variants.{Freed, Grounded, Singular, Wild, Stepped, Converged}
 use Rattle.trial.specs.Trial.{Outcome, repairOf, judged, stepEntry, stepOf}
-use Rattle.entries.specs.Entries.{dampingStart, goingOf}
+use Rattle.entries.specs.Entries.{dampingStart, goingOf, noEntry}
 use Rattle.entries.specs.declared.Going.{Going}
 use Rattle.entries.specs.declared.Going.the-variants.{On, Over}
 use Rattle.runs.specs.Run.{thenRun, runWith}
@@ -50,22 +51,22 @@ on-damping d d' (Freed i) h = cc
 on-damping d d' (Grounded i) h = cc
 on-damping d d' (Singular i) h = other (cc)
 on-damping d d' (Wild p) h = other (cc)
-on-damping d d' (Stepped x) h = cc
-on-damping d d' Converged h = other (cc)
+on-damping d d' (Stepped x flip) h = cc
+on-damping d d' (Converged flip) h = other (cc)
 
 -- ---- each entry
 
 module _ (s : List ℕ) (l : Layout) where
   -- Demand 2: entry i of a run is that of a trial of the state after the first i trials, with the damping after them.
-  pub each-entry : (m i : ℕ) (p : Point) → i < length (runAt s l m p .entries) → getD (runAt s l m p .entries) i Converged ≡ trialAt s l (afterTrials s l i p) .entry
+  pub each-entry : (m i : ℕ) (p : Point) → i < length (runAt s l m p .entries) → getD (runAt s l m p .entries) i noEntry ≡ trialAt s l (afterTrials s l i p) .entry
   unfolding runWith thenRun next
   each-entry zero i p h = absurd (let y : ⊥ = omega arith in y)
   each-entry (suc m) i p h = go (trialAt s l p) refl (goingOf (p .damping) (trialAt s l p .entry)) refl i (each-entry m) h
     where
       go : (o : Outcome) → trialAt s l p ≡ o → (g : Going) → goingOf (p .damping) (o .entry) ≡ g → (i : ℕ)
-          → ((i : ℕ) (p : Point) → i < length (runAt s l m p .entries) → getD (runAt s l m p .entries) i Converged ≡ trialAt s l (afterTrials s l i p) .entry)
+          → ((i : ℕ) (p : Point) → i < length (runAt s l m p .entries) → getD (runAt s l m p .entries) i noEntry ≡ trialAt s l (afterTrials s l i p) .entry)
           → i < length (thenRun (o .entry) (o .state) g (runWith repairOf s l m) .entries)
-          → getD (thenRun (o .entry) (o .state) g (runWith repairOf s l m) .entries) i Converged ≡ trialAt s l (afterTrials s l i p) .entry
+          → getD (thenRun (o .entry) (o .state) g (runWith repairOf s l m) .entries) i noEntry ≡ trialAt s l (afterTrials s l i p) .entry
       go o q (On d') e zero ih h = rw (unmoved s l p, q)
       go o q (Over z) e zero ih h = rw (unmoved s l p, q)
       go o q (On d') e (suc i) ih h = rw (shifted s l i p, q, on-damping (p .damping) d' (o .entry) e) (ih i (point d' (o .state)) (omega arith))
@@ -94,25 +95,25 @@ start-in : InRange (dampingStart .factor)
 unfolding dampingStart le lt eq ofBits ofFields odd trailingZeros
 start-in = record { least = tt; most = tt }
 
-judged-in : (o : Options) (d : Damping) (m : Stats) → InRange (d .factor) → InRange (dampingAfter d (judged o d m) .factor)
+judged-in : (o : Options) (d : Damping) (m : Stats) (flip : Flip) → InRange (d .factor) → InRange (dampingAfter d (judged o d m flip) .factor)
 unfolding judged dampingAfter
-judged-in o d m r = go (convergedOf change (o .accuracy) (m .changed) (m .largest) (o .unit) (o .change))
+judged-in o d m flip r = go (convergedOf change (o .accuracy) (m .changed) (m .largest) (o .unit) (o .change))
   where
     change : Float
     change = relativeChange (m .moved) (m .total) (o .accuracy)
 
-    go : (b : Bool) → InRange (dampingAfter d (cond b Converged (Stepped (record { factor = dampedOf (d .factor) (d .previous) change (o .damping); previous = change }))) .factor)
+    go : (b : Bool) → InRange (dampingAfter d (cond b (Converged flip) (Stepped (record { factor = dampedOf (d .factor) (d .previous) change (o .damping); previous = change }) flip)) .factor)
     go true = r
     go false = in-range (d .factor) r (d .previous) change (o .damping)
 
-entry-in : (f : Found) (o : Options) (d : Damping) (m : Stats) → InRange (d .factor) → InRange (dampingAfter d (stepEntry f o d m) .factor)
+entry-in : (f : Found) (o : Options) (d : Damping) (m : Stats) (flip : Flip) → InRange (d .factor) → InRange (dampingAfter d (stepEntry f o d m flip) .factor)
 unfolding stepEntry dampingAfter
-entry-in (At p) o d m r = r
-entry-in Nothing o d m r = judged-in o d m r
+entry-in (At p) o d m flip r = r
+entry-in Nothing o d m flip r = judged-in o d m flip r
 
 module _ (s : List ℕ) (l : Layout) where
   step-in : (d : Damping) (t : State) → InRange (d .factor) → (g y x : List Float) → InRange (dampingAfter d (stepOf s l d t g y x .entry) .factor)
-  step-in d t r g y x = step-entry s l d t g y x (λ e. InRange (dampingAfter d e .factor)) (λ h q f m. entry-in (wildPlace l h q f) (optionsOf s) d m r)
+  step-in d t r g y x = step-entry s l d t g y x (λ e. InRange (dampingAfter d e .factor)) (λ h q f m flip. entry-in (wildPlace l h q f) (optionsOf s) d m flip r)
 
   -- A trial keeps the damping factor from 0.25 to 1.
   pub kept-in-range : (p : Point) → InRange (p .damping .factor) → InRange (next s l p .damping .factor)
@@ -135,7 +136,7 @@ solve-last-state s l = last-state s l (trialsOf s) (startPoint s l)
 
 module _ (s : List ℕ) (l : Layout) (i : ℕ) where
   -- each entry is that of a trial of the state before it,
-  pub solve-each-entry : i < length (runIn s l .entries) → getD (runIn s l .entries) i Converged ≡ trialAt s l (pointIn s l i) .entry
+  pub solve-each-entry : i < length (runIn s l .entries) → getD (runIn s l .entries) i noEntry ≡ trialAt s l (pointIn s l i) .entry
   unfolding runIn pointIn
   solve-each-entry h = each-entry s l (trialsOf s) i (startPoint s l) h
 

@@ -111,8 +111,8 @@ least-counted t (Freed i) = record { freed = omega arith; grounded = omega arith
 least-counted t (Grounded i) = record { freed = omega arith; grounded = omega arith }
 least-counted t (Singular i) = record { freed = omega arith; grounded = omega arith }
 least-counted t (Wild p) = record { freed = omega arith; grounded = omega arith }
-least-counted t (Stepped d) = record { freed = omega arith; grounded = omega arith }
-least-counted t Converged = record { freed = omega arith; grounded = omega arith }
+least-counted t (Stepped d flip) = record { freed = omega arith; grounded = omega arith }
+least-counted t (Converged flip) = record { freed = omega arith; grounded = omega arith }
 
 least-tallied : (t : Tally) (es : List Entry) → Least t (tallied t es)
 unfolding tallied
@@ -129,8 +129,8 @@ tally-unmended t (Freed i ∷ es) f g = let b = least-tallied (counted t (Freed 
 tally-unmended t (Grounded i ∷ es) f g = let b = least-tallied (counted t (Grounded i)) es in absurd (let z : ⊥ = omega arith in z)
 tally-unmended t (Singular i ∷ es) f g = tally-unmended (counted t (Singular i)) es f g
 tally-unmended t (Wild p ∷ es) f g = tally-unmended (counted t (Wild p)) es f g
-tally-unmended t (Stepped d ∷ es) f g = tally-unmended (counted t (Stepped d)) es f g
-tally-unmended t (Converged ∷ es) f g = tally-unmended (counted t Converged) es f g
+tally-unmended t (Stepped d flip ∷ es) f g = tally-unmended (counted t (Stepped d flip)) es f g
+tally-unmended t (Converged flip ∷ es) f g = tally-unmended (counted t (Converged flip)) es f g
 
 -- ---- the whole solve
 

@@ -9,6 +9,7 @@ use Rattle.sheet.specs.Read.{readOf}
 use Rattle.found.specs.declared.Found.the-variants.{At}
 use Rattle.layout.specs.declared.places.Layout.{Layout}
 use Rattle.sheet.specs.declared.reading.Reading.the-variants.{Good, Refused}
+use Rattle.entries.specs.Entries.{noEntry}
 use Rattle.entries.specs.declared.Entry.{Entry}
 use Rattle.entries.specs.declared.Entry.the-variants.{Freed, Grounded, Singular, Wild, Stepped, Converged}
 use Rattle.entries.specs.declared.Ended.{Ended}
@@ -44,19 +45,19 @@ endBy (Freed i) = Limit
 endBy (Grounded i) = Limit
 endBy (Singular v) = Failed v
 endBy (Wild p) = Strayed p
-endBy (Stepped d) = Limit
-endBy Converged = Balanced
+endBy (Stepped d flip) = Limit
+endBy (Converged flip) = Balanced
 
 -- what the entries of a run tell of its end
 pub record EndsBy (m : ℕ) (r : Run) : Type 0 where
   pub some : 1 ≤ m → 1 ≤ length (r .entries)
-  pub last : 1 ≤ m → r .ended ≡ endBy (getD (r .entries) (length (r .entries) - 1) Converged)
-  pub on : (i : ℕ) → suc i < length (r .entries) → endBy (getD (r .entries) i Converged) ≡ Limit
+  pub last : 1 ≤ m → r .ended ≡ endBy (getD (r .entries) (length (r .entries) - 1) noEntry)
+  pub on : (i : ℕ) → suc i < length (r .entries) → endBy (getD (r .entries) i noEntry) ≡ Limit
   pub limit : r .ended ≡ Limit → length (r .entries) ≡ m
 
 -- the last entry of the run of a sheet, and where the run stands before it
 unfoldable pub lastIn : List ℕ → Layout → Entry
-lastIn s l = getD (runIn s l .entries) (length (runIn s l .entries) - 1) Converged
+lastIn s l = getD (runIn s l .entries) (length (runIn s l .entries) - 1) noEntry
 
 unfoldable pub beforeLast : List ℕ → Layout → Point
 beforeLast s l = pointIn s l (length (runIn s l .entries) - 1)

@@ -12,3 +12,4 @@ pub mod Buffers
 pub mod Causes
 pub mod Example
 pub mod Sold
+pub mod Flips

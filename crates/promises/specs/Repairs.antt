@@ -68,8 +68,8 @@ mends (Freed i) = true
 mends (Grounded i) = true
 mends (Singular i) = false
 mends (Wild p) = false
-mends (Stepped d) = false
-mends Converged = false
+mends (Stepped d flip) = false
+mends (Converged flip) = false
 
 -- VF, GN and SG: the factorization failed
 unfoldable pub fails : Entry → Bool
@@ -77,8 +77,8 @@ fails (Freed i) = true
 fails (Grounded i) = true
 fails (Singular i) = true
 fails (Wild p) = false
-fails (Stepped d) = false
-fails Converged = false
+fails (Stepped d flip) = false
+fails (Converged flip) = false
 
 -- heads, demands and flows are as they were
 pub record Spared (t u : State) : Type 0 where

@@ -19,7 +19,8 @@ use Rattle.coefficient.specs.declared.Coefficients.{Coefficients}
 use Rattle.link_rows.specs.LinkRows.{View, view, coefficientsAt}
 use Rattle.sheet.specs.Read.{readOf}
 use Rattle.sheet.specs.declared.reading.Reading.the-variants.{Good}
-use Rattle.entries.specs.declared.Entry.the-variants.{Freed, Grounded, Converged}
+use Rattle.entries.specs.Entries.{noEntry}
+use Rattle.entries.specs.declared.Entry.the-variants.{Freed, Grounded}
 use Rattle.links.specs.declared.LinkIndex.{LinkIndex}
 use Rattle.nodes.specs.declared.NodeIndex.{NodeIndex}
 use Rattle.answers.specs.Answers.{Lent}
@@ -108,8 +109,8 @@ pub record Offered (s : List ℕ) (l : Layout) (limits : Limits) (x : Lent) (o :
 -- ---- June: a regulator was freed, a node was grounded, or a head hangs on nothing
 
 pub data June (s : List ℕ) (l : Layout) (o : Sale) : Type 0 where
-  freed : (i : ℕ) (j : LinkIndex) → i < o .answer .trials → getD (runIn s l .entries) i Converged ≡ Freed j → June s l o
-  grounded : (i : ℕ) (v : NodeIndex) → i < o .answer .trials → getD (runIn s l .entries) i Converged ≡ Grounded v → June s l o
+  freed : (i : ℕ) (j : LinkIndex) → i < o .answer .trials → getD (runIn s l .entries) i noEntry ≡ Freed j → June s l o
+  grounded : (i : ℕ) (v : NodeIndex) → i < o .answer .trials → getD (runIn s l .entries) i noEntry ≡ Grounded v → June s l o
   hanging : (i : ℕ) → i < l .nodes → inService s l i ≡ true → (Joins s l (o .lent .flows) (o .lent .statuses) i → ⊥) → June s l o
 
 -- ---- why a verdict is told: what fails first, at its place, and nothing before it

@@ -32,8 +32,8 @@ dampingAfter d (Freed i) = d
 dampingAfter d (Grounded i) = d
 dampingAfter d (Singular i) = d
 dampingAfter d (Wild p) = d
-dampingAfter d (Stepped next) = next
-dampingAfter d Converged = d
+dampingAfter d (Stepped next flip) = next
+dampingAfter d (Converged flip) = d
 
 -- one trial on
 unfoldable pub next : List ℕ → Layout → Point → Point

@@ -52,8 +52,8 @@ counts t (Freed i) = record { trials = refl; freed = omega arith; grounded = ome
 counts t (Grounded i) = record { trials = refl; freed = omega arith; grounded = omega arith }
 counts t (Singular i) = record { trials = refl; freed = omega arith; grounded = omega arith }
 counts t (Wild i) = record { trials = refl; freed = omega arith; grounded = omega arith }
-counts t (Stepped i) = record { trials = refl; freed = omega arith; grounded = omega arith }
-counts t Converged = record { trials = refl; freed = omega arith; grounded = omega arith }
+counts t (Stepped i flip) = record { trials = refl; freed = omega arith; grounded = omega arith }
+counts t (Converged flip) = record { trials = refl; freed = omega arith; grounded = omega arith }
 
 -- an entry a trial
 pub tallied-trials : (t : Tally) (es : List Entry) → tallied t es .trials ≡ t .trials + length es

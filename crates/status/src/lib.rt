@@ -1,15 +1,16 @@
-// The changes of a link's status (document 01, item 5): pipe.rs, valve.rs and link.rs.
+// The changes of a link's status (document 01, item 5): pipe.rs, valve.rs and link.rs; and why (document 02, [2]).
 ghost use mathlib.Core.Path.{_≡_};
 ghost use Rattle.status.specs.Rules.{becomesIf, closedIfNegative, pipeStatus, prvStatus, psvStatus, updatedOf};
+use causes::Cause;
 use constants::H_TOL;
 use constants::Q_TOL;
 use records::LinkKind;
 use records::Status;
 
-// The new status of a link, if a rule gives one.
+// The new status of a link and its cause, if a rule gives one.
 pub enum Change {
     Stays,
-    Becomes(Status),
+    Becomes(Status, Cause),
 }
 
 // A pipe that a tank shut opens again.
@@ -17,17 +18,27 @@ fn pipe_status(status: Status) -> Change
     ensures { λ r. ⌜ r ≡ pipeStatus status ⌝ }
 {
     match status {
-        Status::TempClosed => Change::Becomes(Status::Open),
+        Status::TempClosed => Change::Becomes(Status::Open, Cause::Reopened),
         _ => Change::Stays,
     }
 }
 
-// The status, if the test holds.
-fn becomes_if(test: bool, status: Status) -> Change
-    ensures { λ r. ⌜ r ≡ becomesIf test status ⌝ }
+// Open with its cause, if the test holds.
+fn opens_if(test: bool, cause: Cause) -> Change
+    ensures { λ r. ⌜ r ≡ becomesIf test Status.Open cause ⌝ }
 {
     if test {
-        return Change::Becomes(status);
+        return Change::Becomes(Status::Open, cause);
+    }
+    Change::Stays
+}
+
+// Active with its cause, if the test holds.
+fn regulates_if(test: bool, cause: Cause) -> Change
+    ensures { λ r. ⌜ r ≡ becomesIf test Status.Active cause ⌝ }
+{
+    if test {
+        return Change::Becomes(Status::Active, cause);
     }
     Change::Stays
 }
@@ -37,7 +48,7 @@ fn closed_if_negative(q: f64, change: Change) -> Change
     ensures { λ r. ⌜ r ≡ closedIfNegative q change ⌝ }
 {
     if q < -Q_TOL {
-        return Change::Becomes(Status::Closed);
+        return Change::Becomes(Status::Closed, Cause::ReverseFlow);
     }
     change
 }
@@ -48,18 +59,21 @@ fn prv_status(target: f64, status: Status, q: f64, head_start: f64, head_end: f6
 {
     match status {
         Status::Active => {
-            closed_if_negative(q, becomes_if(head_start < target - H_TOL, Status::Open))
+            closed_if_negative(q, opens_if(head_start < target - H_TOL, Cause::InletTooLow))
         }
         Status::Open => {
-            closed_if_negative(q, becomes_if(head_end > target + H_TOL, Status::Active))
+            closed_if_negative(
+                q,
+                regulates_if(head_end > target + H_TOL, Cause::OutletTooHigh),
+            )
         }
         Status::Closed => {
             if (head_start >= target + H_TOL) & (head_end < target - H_TOL) {
-                return Change::Becomes(Status::Active);
+                return Change::Becomes(Status::Active, Cause::Reopened);
             }
-            becomes_if(
+            opens_if(
                 (head_start < target - H_TOL) & (head_start > head_end + H_TOL),
-                Status::Open,
+                Cause::Reopened,
             )
         }
         Status::XPressure => closed_if_negative(q, Change::Stays),
@@ -73,18 +87,21 @@ fn psv_status(target: f64, status: Status, q: f64, head_start: f64, head_end: f6
 {
     match status {
         Status::Active => {
-            closed_if_negative(q, becomes_if(head_end > target + H_TOL, Status::Open))
+            closed_if_negative(q, opens_if(head_end > target + H_TOL, Cause::OutletTooHigh))
         }
         Status::Open => {
-            closed_if_negative(q, becomes_if(head_start < target - H_TOL, Status::Active))
+            closed_if_negative(
+                q,
+                regulates_if(head_start < target - H_TOL, Cause::InletTooLow),
+            )
         }
         Status::Closed => {
             if (head_end > target + H_TOL) & (head_start > head_end + H_TOL) {
-                return Change::Becomes(Status::Open);
+                return Change::Becomes(Status::Open, Cause::Reopened);
             }
-            becomes_if(
+            regulates_if(
                 (head_start > target + H_TOL) & (head_start > head_end + H_TOL),
-                Status::Active,
+                Cause::Reopened,
             )
         }
         Status::XPressure => closed_if_negative(q, Change::Stays),
@@ -92,7 +109,7 @@ fn psv_status(target: f64, status: Status, q: f64, head_start: f64, head_end: f6
     }
 }
 
-// The new status of a link.
+// The new status of a link and its cause.
 pub fn updated(
     kind: LinkKind,
     status: Status,

@@ -8,6 +8,7 @@ use Rattle.records.specs.Records.{optionsOf}
 use Rattle.records.specs.declared.records.Options.{Options}
 use Rattle.found.specs.declared.Found.{Found}
 use Rattle.found.specs.declared.Found.the-variants.{At, Nothing}
+use Rattle.causes.specs.declared.Flip.{Flip}
 use Rattle.damping.specs.Damping.{dampedOf, relativeChange, convergedOf}
 use Rattle.state.specs.State.{State, state, solvedHeads}
 use Rattle.wild.specs.Wild.{wildPlace}
@@ -29,17 +30,17 @@ abbrev pub outcome : Entry → State → Outcome
 outcome e t = record { entry = e; state = t }
 
 -- relative change, damping and convergence, by the sheet's options
-unfoldable pub judged : Options → Damping → Stats → Entry
-judged o d m =
+unfoldable pub judged : Options → Damping → Stats → Flip → Entry
+judged o d m flip =
     let change = relativeChange (m .moved) (m .total) (o .accuracy) in
-    cond (convergedOf change (o .accuracy) (m .changed) (m .largest) (o .unit) (o .change)) Converged
-    (Stepped (record { factor = dampedOf (d .factor) (d .previous) change (o .damping); previous = change }))
+    cond (convergedOf change (o .accuracy) (m .changed) (m .largest) (o .unit) (o .change)) (Converged flip)
+    (Stepped (record { factor = dampedOf (d .factor) (d .previous) change (o .damping); previous = change }) flip)
 
 -- the test for 7 comes first
-unfoldable pub stepEntry : Found → Options → Damping → Stats → Entry
+unfoldable pub stepEntry : Found → Options → Damping → Stats → Flip → Entry
 unfolding judged
-stepEntry (At place) o d m = Wild place
-stepEntry Nothing o d m = judged o d m
+stepEntry (At place) o d m flip = Wild place
+stepEntry Nothing o d m flip = judged o d m flip
 
 -- a step with the solved unknowns x: heads, flows and statuses, tank links, drawn flows, then what it comes to
 unfoldable pub stepOf : List ℕ → Layout → Damping → State → List Float → List Float → List Float → Outcome
@@ -48,8 +49,8 @@ stepOf s l d t g y x =
     let h = solvedHeads s l x (l .nodes) (t .heads) in
     let u = updateOf s l (basis h g y (d .factor)) (t .flows) (t .statuses) in
     let w = tankLinksOf s l h (u .flows) (t .demands) (u .codes) in
-    let f = drawnOf s l h (d .factor) (w .demands) (draws (t .drawn) (u .stats)) in
-    outcome (stepEntry (wildPlace l h (u .flows) (f .drawn)) (optionsOf s) d (f .stats)) (state h (w .demands) (f .drawn) (u .flows) (w .codes) (t .grounded))
+    let f = drawnOf s l h (d .factor) (w .demands) (draws (t .drawn) (u .updated .stats)) in
+    outcome (stepEntry (wildPlace l h (u .flows) (f .drawn)) (optionsOf s) d (f .stats) (u .updated .flip)) (state h (w .demands) (f .drawn) (u .flows) (w .codes) (t .grounded))
 
 -- the columns are long enough for the nodes and links
 pub record Room (l : Layout) (t : State) : Type 0 where

@@ -7,6 +7,7 @@ ghost use Rattle.numbering.specs.Numbering.{RowsRight};
 ghost use Rattle.state.specs.Network.{Network};
 ghost use Rattle.state.specs.State.{state};
 ghost use Rattle.step.specs.Step.{Room, outcome, judged, stepOf};
+use causes::Flip;
 use damping::Damping;
 use entries::Entry;
 use found::Found;
@@ -15,8 +16,8 @@ use records::Options;
 use update::Stats;
 
 // Relative change, damping and convergence.
-fn judge(options: Options, d: Damping, stats: Stats) -> Entry
-    ensures { λ r. ⌜ r ≡ judged options d stats ⌝ }
+fn judge(options: Options, d: Damping, stats: Stats, flip: Flip) -> Entry
+    ensures { λ r. ⌜ r ≡ judged options d stats flip ⌝ }
 {
     let change = damping::relative_change(stats.moved, stats.total, options.accuracy);
     if damping::converged(
@@ -27,12 +28,13 @@ fn judge(options: Options, d: Damping, stats: Stats) -> Entry
         options.unit,
         options.change,
     ) {
-        return Entry::Converged;
+        return Entry::Converged(flip);
     }
-    Entry::Stepped(Damping {
+    let next = Damping {
         factor: damping::damped(d.factor, d.previous, change, options.damping),
         previous: change,
-    })
+    };
+    Entry::Stepped(next, flip)
 }
 
 // The step of a trial whose matrix was factored: x is the solved right side.
@@ -58,11 +60,13 @@ pub fn step(
     ensures { λ r. ⌜ outcome r (state (now (heads .exit)) (now (demands .exit)) (now (drawn .exit)) (now (flows .exit)) (now (statuses .exit)) (now (grounded .entry))) ≡ stepOf (now (sheet .entry)) l d (state (now (heads .entry)) (now (demands .entry)) (now (drawn .entry)) (now (flows .entry)) (now (statuses .entry)) (now (grounded .entry))) (now (g .entry)) (now (y .entry)) (now (x .entry)) ⌝ }
 {
     state::put_heads(sheet, l, unknowns, x, heads);
-    let links = update::update_links(sheet, l, heads, g, y, d.factor, flows, statuses);
+    let updated = update::update_links(sheet, l, heads, g, y, d.factor, flows, statuses);
+    let moved = updated.stats;
+    let flip = updated.flip;
     tanks::tank_links(sheet, l, heads, flows, demands, statuses);
-    let stats = drawn::update_drawn(sheet, l, heads, d.factor, demands, drawn, links);
+    let stats = drawn::update_drawn(sheet, l, heads, d.factor, demands, drawn, moved);
     match wild::wild_place(l, heads, flows, drawn) {
         Found::At(place) => Entry::Wild(place),
-        Found::Nothing => judge(records::options_of(sheet), d, stats),
+        Found::Nothing => judge(records::options_of(sheet), d, stats, flip),
     }
 }

@@ -27,7 +27,7 @@ either false p r = r
 recoded-long : (codes : List ℕ) (i : ℕ) (change : Change) → length (recoded codes i change) ≡ length codes
 unfolding recoded
 recoded-long codes i Stays = refl
-recoded-long codes i (Becomes new) = length-set codes i (statusCode new)
+recoded-long codes i (Becomes new cause) = length-set codes i (statusCode new)
 
 moved-long : (s : List ℕ) (l : Layout) (b : Basis) (k : Link) (j : ℕ) (w w₀ : Stepping) → SameLengths w w₀ → SameLengths (linkMoved s l b k j w) w₀
 unfolding linkMoved linkSet

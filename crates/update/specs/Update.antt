@@ -1,4 +1,4 @@
--- hydraulicsolver.rs `update_links`: flows and statuses after the heads, and what moved. Definitions only.
+-- hydraulicsolver.rs `update_links`: flows and statuses after the heads, and what moved; and which link's status changed first, with the cause (document 02, [2]). Definitions only.
 use Prim.Native.Nat.{ℕ, zero, suc}
 use mathlib.Core.Bool.{Bool, true, false, cond, _&&_, _||_}
 use mathlib.Core.List.{List}
@@ -13,15 +13,19 @@ use Rattle.codes.specs.declared.Status.the-variants.{Closed, Open, Active, Temp
 use Rattle.records.specs.declared.records.Link.{Link}
 use Rattle.constants.specs.Arithmetic.{plus, minus, times}
 use Rattle.constants.specs.Constants as constant
+use Rattle.causes.specs.Causes.{firstFlip}
+use Rattle.causes.specs.declared.Flip.{Flip}
+use Rattle.causes.specs.declared.Flip.the-variants.{Nothing}
 use Rattle.status.specs.Rules.{updatedOf}
 use Rattle.status.specs.declared.Change.{Change}
 use Rattle.status.specs.declared.Change.the-variants.{Stays, Becomes}
 use Rattle.nodes.specs.Nodes.{enabled, elevationOf}
 use Rattle.update.specs.declared.Stats.{Stats}
+use Rattle.update.specs.declared.Updated.{Updated}
 
--- nothing moved yet
-abbrev pub still : Stats
-still = record { moved = constant.zero; total = constant.zero; largest = constant.zero; changed = false }
+-- nothing moved yet, and nothing changed
+abbrev pub still : Updated
+still = record { stats = record { moved = constant.zero; total = constant.zero; largest = constant.zero; changed = false }; flip = Nothing }
 
 -- a flow change, the flow after it, and whether a status change counts, taken into the statistics
 unfoldable pub noted : Float → Float → Bool → Stats → Stats
@@ -48,21 +52,27 @@ leaves XPressure = true
 unfoldable pub counts : Status → Change → Bool
 unfolding leaves
 counts old Stays = false
-counts old (Becomes new) = leaves old
+counts old (Becomes new cause) = leaves old
 
 -- the code of link i after a change
 unfoldable pub recoded : List ℕ → ℕ → Change → List ℕ
 recoded codes i Stays = codes
-recoded codes i (Becomes new) = set codes i (statusCode new)
+recoded codes i (Becomes new cause) = set codes i (statusCode new)
 
--- the flows and the status codes as they stand, and the statistics so far
+-- any change is told, whether it counts or not
+unfoldable pub telling : Flip → ℕ → Change → Flip
+unfolding firstFlip
+telling flip j Stays = flip
+telling flip j (Becomes new cause) = firstFlip flip j cause
+
+-- the flows and the status codes as they stand, the statistics so far and the first change
 pub record Stepping : Type 0 where
   pub flows : List Float
   pub codes : List ℕ
-  pub stats : Stats
+  pub updated : Updated
 
-abbrev pub stepping : List Float → List ℕ → Stats → Stepping
-stepping q c m = record { flows = q; codes = c; stats = m }
+abbrev pub stepping : List Float → List ℕ → Updated → Stepping
+stepping q c u = record { flows = q; codes = c; updated = u }
 
 -- what the links are moved by: the heads, the links' g and y, and the damping factor
 pub record Basis : Type 0 where
@@ -89,9 +99,13 @@ changeAt s l h k code q =
 
 -- link j in service, with its code, its flow change, its new flow and the change of its status
 unfoldable pub linkSet : ℕ → ℕ → Float → Float → Change → Stepping → Stepping
-unfolding noted counts recoded
+unfolding noted counts recoded telling
 linkSet j code dq q change w =
-    record { flows = set (w .flows) j q; codes = recoded (w .codes) j change; stats = noted dq q (counts (statusOf code) change) (w .stats) }
+    record {
+      flows = set (w .flows) j q;
+      codes = recoded (w .codes) j change;
+      updated = record { stats = noted dq q (counts (statusOf code) change) (w .updated .stats); flip = telling (w .updated .flip) j change };
+    }
 
 unfoldable pub linkMoved : List ℕ → Layout → Basis → Link → ℕ → Stepping → Stepping
 unfolding flowChange changeAt linkSet
@@ -106,7 +120,7 @@ unfoldable pub linkUpdate : List ℕ → Layout → Basis → Link → ℕ → S
 unfolding linkMoved
 linkUpdate s l b k j w =
     cond (enabled s l (k .start) && enabled s l (k .end)) (linkMoved s l b k j w)
-    (stepping (set (w .flows) j constant.zero) (w .codes) (w .stats))
+    (stepping (set (w .flows) j constant.zero) (w .codes) (w .updated))
 
 -- the first j links, in order
 unfoldable pub linkUpdates : List ℕ → Layout → Basis → ℕ → Stepping → Stepping

@@ -1,11 +1,14 @@
-// hydraulicsolver.rs `update_links`: the flows and statuses after the heads, and what moved.
+// hydraulicsolver.rs `update_links`: the flows and statuses after the heads, and what moved; and which
+// link's status changed first, with the cause (document 02, [2]).
 ghost use mathlib.Core.Path.{_≡_};
 ghost use Prim.Native.Nat.{_<_, _≤_};
 ghost use lib.ListN.{length};
 ghost use Rattle.layout.specs.Places.{Laid};
 ghost use Rattle.codes.specs.Codes.{statusOf};
 ghost use Rattle.links.specs.Links.{EndsIn, linkOf};
-ghost use Rattle.update.specs.Update.{basis, stepping, noted, counts, recoded, flowChange, changeAt, linkMoved, linkUpdate, linkUpdates, updateOf};
+ghost use Rattle.update.specs.Update.{basis, stepping, noted, counts, recoded, telling, flowChange, changeAt, linkMoved, linkUpdate, linkUpdates, updateOf};
+use causes::Flip;
+use causes::first_flip;
 use float::abs;
 use layout::Layout;
 use links::link;
@@ -24,6 +27,12 @@ pub struct Stats {
     pub total: f64,
     pub largest: f64,
     pub changed: bool,
+}
+
+// What an update of the links came to.
+pub struct Updated {
+    pub stats: Stats,
+    pub flip: Flip,
 }
 
 // Takes a flow change, the flow after it and a status change that counts into the statistics.
@@ -49,7 +58,7 @@ fn change_counts(old: Status, change: Change) -> bool
 {
     match change {
         Change::Stays => false,
-        Change::Becomes(_) => match old {
+        Change::Becomes(_, _) => match old {
             Status::TempClosed | Status::Xhead => false,
             _ => true,
         },
@@ -60,8 +69,18 @@ fn recode(statuses: &mut [u8], j: usize, change: Change)
     requires { ⌜ j < length (now statuses) ⌝ }
     ensures { λ _. ⌜ now (statuses .exit) ≡ recoded (now (statuses .entry)) j change ⌝ }
 {
-    if let Change::Becomes(new) = change {
+    if let Change::Becomes(new, _) = change {
         statuses[j] = status_code(new);
+    }
+}
+
+// What is told with the change of link j, any change: of links that come in order, the first.
+fn tell(flip: Flip, j: usize, change: Change) -> Flip
+    ensures { λ r. ⌜ r ≡ telling flip j change ⌝ }
+{
+    match change {
+        Change::Stays => flip,
+        Change::Becomes(_, cause) => first_flip(flip, j, cause),
     }
 }
 
@@ -110,12 +129,12 @@ fn move_link(
     factor: f64,
     flows: &mut [f64],
     statuses: &mut [u8],
-    stats: Stats,
-) -> Stats
+    u: Updated,
+) -> Updated
     requires { ⌜ Laid l (now sheet) ⌝ }
     requires { ⌜ (l .nodes ≤ length (now heads)) × ((k .start < l .nodes) × (k .end < l .nodes)) ⌝ }
     requires { ⌜ (j < length (now g)) × ((j < length (now y)) × ((j < length (now flows)) × (j < length (now statuses)))) ⌝ }
-    ensures { λ r. ⌜ stepping (now (flows .exit)) (now (statuses .exit)) r ≡ linkMoved (now (sheet .entry)) l (basis (now (heads .entry)) (now (g .entry)) (now (y .entry)) factor) k j (stepping (now (flows .entry)) (now (statuses .entry)) stats) ⌝ }
+    ensures { λ r. ⌜ stepping (now (flows .exit)) (now (statuses .exit)) r ≡ linkMoved (now (sheet .entry)) l (basis (now (heads .entry)) (now (g .entry)) (now (y .entry)) factor) k j (stepping (now (flows .entry)) (now (statuses .entry)) u) ⌝ }
 {
     let dq = flow_change(k, j, heads, g, y, factor);
     let q = flows[j] - dq;
@@ -123,7 +142,13 @@ fn move_link(
     let change = change_at(sheet, l, k, code, q, heads);
     flows[j] = q;
     recode(statuses, j, change);
-    note(dq, q, change_counts(status_of(code), change), stats)
+    let stats = u.stats;
+    let flip = u.flip;
+    let noted = note(dq, q, change_counts(status_of(code), change), stats);
+    Updated {
+        stats: noted,
+        flip: tell(flip, j, change),
+    }
 }
 
 // One link; one with a disabled end gets flow 0.0 and nothing else.
@@ -137,22 +162,22 @@ fn update_link(
     factor: f64,
     flows: &mut [f64],
     statuses: &mut [u8],
-    stats: Stats,
-) -> Stats
+    u: Updated,
+) -> Updated
     requires { ⌜ Laid l (now sheet) ⌝ }
     requires { ⌜ EndsIn l (now sheet) ⌝ }
     requires { ⌜ (l .nodes ≤ length (now heads)) × (j < l .links) ⌝ }
     requires { ⌜ (j < length (now g)) × ((j < length (now y)) × ((j < length (now flows)) × (j < length (now statuses)))) ⌝ }
-    ensures { λ r. ⌜ stepping (now (flows .exit)) (now (statuses .exit)) r ≡ linkUpdate (now (sheet .entry)) l (basis (now (heads .entry)) (now (g .entry)) (now (y .entry)) factor) (linkOf (now (sheet .entry)) l j) j (stepping (now (flows .entry)) (now (statuses .entry)) stats) ⌝ }
+    ensures { λ r. ⌜ stepping (now (flows .exit)) (now (statuses .exit)) r ≡ linkUpdate (now (sheet .entry)) l (basis (now (heads .entry)) (now (g .entry)) (now (y .entry)) factor) (linkOf (now (sheet .entry)) l j) j (stepping (now (flows .entry)) (now (statuses .entry)) u) ⌝ }
 {
     let k = link(sheet, l, j);
     let start = k.start;
     let end = k.end;
     if is_enabled(sheet, l, start) & is_enabled(sheet, l, end) {
-        return move_link(sheet, l, k, j, heads, g, y, factor, flows, statuses, stats);
+        return move_link(sheet, l, k, j, heads, g, y, factor, flows, statuses, u);
     }
     flows[j] = 0.0;
-    stats
+    u
 }
 
 // All links in order.
@@ -165,20 +190,24 @@ pub fn update_links(
     factor: f64,
     flows: &mut [f64],
     statuses: &mut [u8],
-) -> Stats
+) -> Updated
     requires { ⌜ Laid l (now sheet) ⌝ }
     requires { ⌜ EndsIn l (now sheet) ⌝ }
     requires { ⌜ (l .nodes ≤ length (now heads)) × ((l .links ≤ length (now g)) × ((l .links ≤ length (now y)) × ((l .links ≤ length (now flows)) × (l .links ≤ length (now statuses))))) ⌝ }
     ensures { λ r. ⌜ stepping (now (flows .exit)) (now (statuses .exit)) r ≡ updateOf (now (sheet .entry)) l (basis (now (heads .entry)) (now (g .entry)) (now (y .entry)) factor) (now (flows .entry)) (now (statuses .entry)) ⌝ }
 {
-    let mut stats = Stats {
+    let still = Stats {
         moved: 0.0,
         total: 0.0,
         largest: 0.0,
         changed: false,
     };
+    let mut u = Updated {
+        stats: still,
+        flip: Flip::Nothing,
+    };
     for j in 0..l.links {
-        stats = update_link(sheet, l, j, heads, g, y, factor, flows, statuses, stats);
+        u = update_link(sheet, l, j, heads, g, y, factor, flows, statuses, u);
     }
-    stats
+    u
 }

@@ -1,6 +1,7 @@
 //! One run of the original `HydraulicSolver::solve` over a sheet, and document
 //! 01's listing of it.
 
+use crate::cause::{cause, number as cause_number};
 use crate::error::SolverError;
 use crate::network::{code_of, network_of, state_of};
 use crate::sheet::{Refusal, Sheet};
@@ -90,12 +91,13 @@ pub fn run(bytes: &[u8]) -> Answer {
     let solver = HydraulicSolver::new(&network).expect("the stand-in's ordering never fails");
     trace::start();
     let result = solver.solve(&network, &state);
-    told(result, trace::take())
+    let kinds: Vec<u8> = sheet.links.iter().map(|l| l.kind).collect();
+    told(result, &kinds, trace::take())
 }
 
 /// The answer, from what the original gave back and what it logged.
-fn told(result: Result<SolverState, SolverError>, events: Vec<Event>) -> Answer {
-    let (mut record, totals) = record_of(&events);
+fn told(result: Result<SolverState, SolverError>, kinds: &[u8], events: Vec<Event>) -> Answer {
+    let (mut record, totals) = record_of(kinds, &events);
     let (number, place, result) = match result {
         Ok(state) => (0, 0, Some(state)),
         Err(SolverError::SingularMatrix { node_id }) => {
@@ -122,15 +124,17 @@ fn told(result: Result<SolverState, SolverError>, events: Vec<Event>) -> Answer 
     }
 }
 
-/// Document 01's entries but `SG`, and the totals of the converged trial.
-fn record_of(events: &[Event]) -> (Record, [f64; 3]) {
+/// Document 01's entries but `SG`, and the totals of the converged trial. Links change
+/// in ascending order, so a trial's first is its lowest.
+fn record_of(kinds: &[u8], events: &[Event]) -> (Record, [f64; 3]) {
     let mut record = Record::new();
     let mut totals = [0.0; 3];
+    let mut first = None;
     for event in events {
         match event {
             Event::Freed { link } => record.push(("VF", *link)),
             Event::Grounded { node } => record.push(("GN", node.parse().unwrap())),
-            Event::Stepped { .. } => record.push(("ST", 0)),
+            Event::Stepped { .. } => record.push(("ST", cause_number(first.take()))),
             Event::Converged {
                 iteration,
                 error,
@@ -138,13 +142,19 @@ fn record_of(events: &[Event]) -> (Record, [f64; 3]) {
                 demand,
             } => {
                 // the same trial has already logged its statistics
-                assert_eq!(record.pop(), Some(("ST", 0)));
-                record.push(("OK", 0));
+                let Some(("ST", number)) = record.pop() else {
+                    panic!("converged without a step");
+                };
+                record.push(("OK", number));
                 assert_eq!(record.len(), *iteration);
                 totals = [*demand, *supply, *error].map(positive_zero);
             }
             Event::NotFinite { place } => record.push(("NF", *place)),
-            Event::Status { .. } | Event::State { .. } => {}
+            Event::Status { link, from, to } => {
+                let link: usize = link.parse().unwrap();
+                first.get_or_insert((link, cause(kinds[link], from, to)));
+            }
+            Event::State { .. } => {}
         }
     }
     (record, totals)

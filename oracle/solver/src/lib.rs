@@ -6,6 +6,7 @@
 include!(concat!(env!("OUT_DIR"), "/original/tree.rs"));
 
 pub mod answer;
+pub mod cause;
 pub mod hook;
 pub mod many;
 pub mod network;

@@ -5,13 +5,14 @@
 //!     excess-up excess-down elevation-up elevation-down
 //!   -> conductance offset up-diagonal up-right-side down-diagonal down-right-side
 //!   S kind status setting q head-up head-down elevation-up elevation-down
-//!   -> the new status, if there is one
+//!   -> the new status and its cause (document 02, [2]), if there is one
 //!   D drawn asked pressure-range
 //!   -> conductance offset
 //!   F n, the lower triangle row by row, the right side
 //!   -> `column c`, the first whose pivot is not above zero, or the solution
 
 use crate::answer::hex;
+use crate::cause::cause;
 use crate::model::junction::Junction;
 use crate::model::link::{Link, LinkTrait, NodeModification};
 use crate::network::{code_of, link_type, status_of};
@@ -104,9 +105,11 @@ fn addition(found: Option<NodeModification>) -> String {
 fn new_status(kind: &str, status: &str, words: &[&str]) -> Option<String> {
     let status = status_of(code(status, 7)?);
     let [setting, q, head_up, head_down, up, down] = floats(words)?;
-    let link = link(code(kind, 6)?, 0, 0.0, 1.0);
+    let kind = code(kind, 6)?;
+    let link = link(kind, 0, 0.0, 1.0);
     let found = link.update_status(setting, status, q, head_up, head_down, up, down);
-    Some(found.map_or("-".into(), |s| code_of(s).to_string()))
+    let cause = |new| cause(kind, &format!("{status:?}"), &format!("{new:?}"));
+    Some(found.map_or("-".into(), |new| format!("{} {}", code_of(new), cause(new))))
 }
 
 /// With the pressure exponent 0.5, so n is 2.
@@ -178,8 +181,8 @@ mod tests {
     #[test]
     fn statuses() {
         let heads = [50.0, 1.0, 40.0, 30.0, 0.0, 0.0];
-        assert_eq!(of(&line("S 1 2", &heads)), "1\n");
-        assert_eq!(of(&line("S 0 3", &heads)), "1\n");
+        assert_eq!(of(&line("S 1 2", &heads)), "1 2\n");
+        assert_eq!(of(&line("S 0 3", &heads)), "1 4\n");
         assert_eq!(of(&line("S 5 3", &heads)), "-\n");
     }
 
@@ -202,7 +205,7 @@ mod tests {
         let one = std::hint::black_box(1.0 / 0.5 - 1.0);
         for exponent in 0..1023u64 {
             for k in 0..2000u64 {
-                let bits = exponent << 52 | (k * k * 0x9e37_79b9_7f4a) & ((1 << 52) - 1);
+                let bits = exponent << 52 | (k.wrapping_mul(k).wrapping_mul(0x9e37_79b9_7f4a)) & ((1 << 52) - 1);
                 let factor = f64::from_bits(bits);
                 assert_eq!(factor.powf(one).to_bits(), bits);
             }

@@ -22,11 +22,11 @@ returns-4 c = rw (c .before .e4 .given .1)
 
 returns-5 : tie.Need-returns-5
 unfolding markOf
-returns-5 c = rw (c .enum-told .given .1)
+returns-5 c = rw (c .flip-number .ensures, c .before .before .e5 .given .1)
 
 returns-6 : tie.Need-returns-6
 unfolding markOf
-returns-6 c = rw (c .enum-told2 .given .1)
+returns-6 c = rw (c .flip-number2 .ensures, c .before .before .e6 .given .1)
 
 pub marked-spec : {M : Type 1} → statement M
 marked-spec =
@@ -37,7 +37,9 @@ marked-spec =
     (λ c. search needs)
     (λ c. search needs)
     (λ c. search needs)
+    (λ c κs. search needs)
     (λ c. search needs)
+    (λ c κs. search needs)
     returns
     returns-2
     returns-3

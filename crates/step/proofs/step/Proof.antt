@@ -15,7 +15,7 @@ abbrev put-of : tie.After-update-links → tie.After-put-heads
 put-of u = u .before .before .before .before .before .before
 
 abbrev update-of : tie.After-tank-links → tie.After-update-links
-update-of t = t .before .before .before .before .before .before .before .before .before
+update-of t = t .before .before .before .before .before .before .before .before .before .before
 
 abbrev tank-of : tie.After-update-drawn → tie.After-tank-links
 tank-of f = f .before .before .before .before .before .before .before .before
@@ -36,7 +36,7 @@ update-links-requires c κs =
 
 tank-links-requires : tie.Need-tank-links-requires
 tank-links-requires c κs =
-    let u = c .before .before .before .before .before .before .before .before in
+    let u = c .before .before .before .before .before .before .before .before .before in
     let p = put-of u in
     let start = start-of p in
     (start .pre .0 .laid, omega (arith, start .pre .1 .1 .1, p .put-heads .kept, u .update-links .kept))
@@ -69,7 +69,7 @@ returns c =
     let f = drawn-of w in
     let t = tank-of f in
     let u = update-of t in
-    step-of _ _ _ _ _ _ _ _ _ _ _ _ _ _ _ _ (put-of u .put-heads .ensures) (u .update-links .ensures) (t .tank-links .ensures) (f .update-drawn .ensures) (entry-wild _ _ _ _ _ (sym (w .wild-place .ensures) ∙ c .before .place .given .1))
+    step-of _ _ _ _ _ _ _ _ _ _ _ _ _ _ _ _ (put-of u .put-heads .ensures) (u .update-links .ensures) (t .tank-links .ensures) (f .update-drawn .ensures) (entry-wild _ _ _ _ _ _ (sym (w .wild-place .ensures) ∙ c .before .place .given .1))
 
 returns-2 : tie.Need-returns-2
 returns-2 c =
@@ -78,7 +78,7 @@ returns-2 c =
     let f = drawn-of w in
     let t = tank-of f in
     let u = update-of t in
-    step-of _ _ _ _ _ _ _ _ _ _ _ _ _ _ _ _ (put-of u .put-heads .ensures) (u .update-links .ensures) (t .tank-links .ensures) (f .update-drawn .ensures) (entry-judged _ _ _ _ _ _ (sym (w .wild-place .ensures) ∙ o .before .enum-told .given .1) (o .options-of .ensures) (c .judge .ensures))
+    step-of _ _ _ _ _ _ _ _ _ _ _ _ _ _ _ _ (put-of u .put-heads .ensures) (u .update-links .ensures) (t .tank-links .ensures) (f .update-drawn .ensures) (entry-judged _ _ _ _ _ _ _ (sym (w .wild-place .ensures) ∙ o .before .enum-told .given .1) (o .options-of .ensures) (c .judge .ensures))
 
 same-length : tie.Need-same-length
 same-length c =

@@ -7,13 +7,15 @@ use Rattle.update.proofs.move_link.Tie as tie
 
 returns : tie.Need-returns
 returns c =
-    let n = c .before in
-    let o = n .before in
-    let r = o .before .before .before in
-    let h = r .before .before in
-    let f = h .before .before .before in
-    let a = f .before .before .before .before .before .before .before .args in
-    moved-of (a .sheet .now) (a .l) (basis (a .heads .now) (a .g .now) (a .y .now) (a .factor)) (a .k) (a .j) (a .flows .now) (a .statuses .now) _ (a .stats) _ _ _ _ _ (f .flow-change .ensures) (h .change-at .ensures) (r .recode .ensures) (o .status-of .ensures) (n .change-counts .ensures) (c .note .ensures)
+    let at-note = c .before in
+    let at-counts = at-note .before in
+    let at-status = at-counts .before in
+    let at-recode = at-status .before .before .before .before in
+    let at-change = at-recode .before .before in
+    let at-flow = at-change .before .before .before in
+    let start = at-flow .before .before .before .before .before .before .before in
+    let a = start .args in
+    moved-of (a .sheet .now) (a .l) (basis (a .heads .now) (a .g .now) (a .y .now) (a .factor)) (a .k) (a .j) (a .flows .now) (a .statuses .now) _ (a .u) _ _ _ _ _ _ (at-flow .flow-change .ensures) (at-change .change-at .ensures) (at-recode .recode .ensures) (at-status .status-of .ensures) (at-counts .change-counts .ensures) (at-note .note .ensures) (c .tell .ensures)
 
 pub move-link-spec : {M : Type 1} → statement M
 move-link-spec =
@@ -26,6 +28,7 @@ move-link-spec =
     (λ c κs. search needs)
     (λ c. search needs)
     (λ c. search needs)
+    (λ c κs. search needs)
     (λ c κs. search needs)
     (λ c κs. search needs)
     (λ c κs. search needs)

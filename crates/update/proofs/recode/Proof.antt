@@ -5,7 +5,7 @@ use Rattle.update.proofs.recode.Statement.{statement}
 use Rattle.update.proofs.recode.Tie as tie
 
 returns : tie.Need-returns
-returns c = recoded-new _ _ _ _ _ (c .before .before .change .given .1) (c .status-code .ensures)
+returns c = recoded-new _ _ _ _ _ _ (c .before .before .change .given .1) (c .status-code .ensures)
 
 returns-2 : tie.Need-returns-2
 returns-2 c = recoded-same _ _ _ (c .enum-told .given .1)

@@ -34,7 +34,7 @@ returns c =
     let u = v .before in
     let k = u .before in
     let a = k .before .before .before .before .before .before .before .args in
-    link-in (a .sheet .now) (a .l) (basis (a .heads .now) (a .g .now) (a .y .now) (a .factor)) (a .j) _ (k .link .ensures) _ _ (u .is-enabled .ensures) (v .is-enabled2 .ensures) (stepping (a .flows .now) (a .statuses .now) (a .stats)) _ (t .if1 .taken) (m .move-link .ensures)
+    link-in (a .sheet .now) (a .l) (basis (a .heads .now) (a .g .now) (a .y .now) (a .factor)) (a .j) _ (k .link .ensures) _ _ (u .is-enabled .ensures) (v .is-enabled2 .ensures) (stepping (a .flows .now) (a .statuses .now) (a .u)) _ (t .if1 .taken) (m .move-link .ensures)
 
 returns-2 : tie.Need-returns-2
 returns-2 c =
@@ -42,7 +42,7 @@ returns-2 c =
     let u = v .before in
     let k = u .before in
     let a = k .before .before .before .before .before .before .before .args in
-    link-out (a .sheet .now) (a .l) (basis (a .heads .now) (a .g .now) (a .y .now) (a .factor)) (a .j) _ (k .link .ensures) _ _ (u .is-enabled .ensures) (v .is-enabled2 .ensures) (stepping (a .flows .now) (a .statuses .now) (a .stats)) (c .if1 .left)
+    link-out (a .sheet .now) (a .l) (basis (a .heads .now) (a .g .now) (a .y .now) (a .factor)) (a .j) _ (k .link .ensures) _ _ (u .is-enabled .ensures) (v .is-enabled2 .ensures) (stepping (a .flows .now) (a .statuses .now) (a .u)) (c .if1 .left)
 
 pub update-link-spec : {M : Type 1} → statement M
 update-link-spec =

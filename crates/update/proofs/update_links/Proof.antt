@@ -1,5 +1,5 @@
 -- `update::update_links` meets its contract. Assumes nothing.
-use Rattle.update.proofs.Made.{Updated, updates-none, updates-next, updates-all}
+use Rattle.update.proofs.Made.{Upto, updates-none, updates-next, updates-all}
 use Rattle.update.specs.Update.{basis}
 use native.Mathlib.Omega.{arith}
 use Prim.Native.Nat.{_-_}
@@ -8,10 +8,10 @@ use Rattle.update.proofs.update_links.Statement.{statement}
 use Rattle.update.proofs.update_links.Tie as tie
 
 abbrev Inv-loop : tie.InvT-loop
-Inv-loop sheet l heads g y factor flows₀ statuses₀ stats₀ j₀ j-end flows statuses stats j = Updated sheet l (basis heads g y factor) flows₀ statuses₀ flows statuses stats j
+Inv-loop sheet l heads g y factor flows₀ statuses₀ u₀ j₀ j-end flows statuses u j = Upto sheet l (basis heads g y factor) flows₀ statuses₀ flows statuses u j
 
 abbrev μ-loop : tie.MeasureT-loop
-μ-loop sheet l heads g y factor flows₀ statuses₀ stats₀ j₀ j-end flows statuses stats j = l .links - j
+μ-loop sheet l heads g y factor flows₀ statuses₀ u₀ j₀ j-end flows statuses u j = l .links - j
 
 loop-holds : tie.Need-loop-holds Inv-loop μ-loop
 loop-holds c = record { upto = omega arith; made = updates-none _ _ _ _; q-long = refl; c-long = refl }

@@ -1,0 +1,2 @@
+-- The specs of `causes`.
+pub mod Causes
