@@ -27,6 +27,10 @@ class NotToBeHad(Exception):
     """The proved program can be neither found nor built, or does not run."""
 
 
+class CannotBuild(NotToBeHad):
+    """There is nothing to build it with, or nowhere to."""
+
+
 def listed():
     """The crates by name; none where the desk stands without them."""
     try:
@@ -142,7 +146,7 @@ def build(name, why):
     if programs.is_installed():
         raise NotToBeHad("the program `%s` is not installed beside the desk: install it anew" % name)
     if shutil.which("rt") is None:
-        raise NotToBeHad("the program `%s` %s, and the Rattle kit's command `rt`, which builds it, is not on the path "
+        raise CannotBuild("the program `%s` %s, and the Rattle kit's command `rt`, which builds it, is not on the path "
                          "(README.md says what is needed)" % (name, why))
     try:
         with alone() as lock:
@@ -153,10 +157,11 @@ def build(name, why):
             if status or not is_there(name):
                 raise NotToBeHad("rt check %s did not build the program:\n%s" % (
                     name, "\n".join(said.strip().splitlines()[-LAST_LINES:])))
-            # rt leaves a program alone whose sources are what they were
-            os.utime(programs.path(name))
+            # rt leaves a program alone whose sources are what they were; and a source may be of tomorrow
+            now = max([time.time()] + [os.stat(source).st_mtime for source in sources(name)])
+            os.utime(programs.path(name), (now, now))
     except OSError as error:
-        raise NotToBeHad("the program `%s` %s and cannot be built: %s" % (name, why, error)) from error
+        raise CannotBuild("the program `%s` %s and cannot be built: %s" % (name, why, error)) from error
 
 
 def have(name):
@@ -164,8 +169,9 @@ def have(name):
     if not is_there(name):
         build(name, "is not built yet")
     elif is_old(name):
-        if shutil.which("rt") is None:
-            complain("the program `%s` is older than its sources, and `rt` is not on the path to build it anew" % name)
-        else:
+        try:
             build(name, "is older than its sources")
+        except CannotBuild as error:
+            # it was proved when it was built
+            complain("%s; it is asked as it is" % error)
     programs.remember_kit()

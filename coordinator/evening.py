@@ -1,5 +1,7 @@
 """The hours of an evening, each a scheme with what is booked in it, solved and judged by the proved program, so many at a
 time."""
+from collections import namedtuple
+
 from . import sheet_bounds
 from .answer import BAD_USE, DOUBTFUL, Answer
 from .network import JUNCTION
@@ -8,10 +10,13 @@ from .verdict import SOLD, TOO_LOW
 
 AT_A_TIME = 32
 
+# the lowest pressure that a booking needs, and the lowest node that has less of those in question, where it is known
+Unmet = namedtuple("Unmet", "least place")
+
 
 class Judged:
     """An hour and its answer at the least of its lowest pressures; no answer where a line of it has a mistake. `unmet` has
-    of each booking that asks for more, and is not shown to have it, the verdict's place at that pressure."""
+    an Unmet for each booking that needs more and is not shown to have it."""
 
     def __init__(self, hour, answer=None, unmet=None):
         self.hour, self.answer, self.unmet = hour, answer, unmet or {}
@@ -30,8 +35,9 @@ class Judged:
         """Whether a booking has its lowest pressure: True or False as the program says; None where it does not."""
         if self.answer is None or not self.answer.may_be_sold:
             return None
-        place = self.unmet.get(booking)
-        return True if place is None else False if place == booking.node else None
+        if booking not in self.unmet:
+            return True
+        return False if self.unmet[booking].place == booking.node else None
 
 
 def demand(node, booked):
@@ -84,9 +90,8 @@ def ask_all(asked, ask):
 
 
 def unmet(hour, limits, replies):
-    """Of each booking that is not shown to have its lowest pressure the verdict's place there: the lowest node that has less.
-    A verdict on a sheet with nodes out of question counts if its listing is the same to the last bit, as it is where no
-    law but the verdict's reads these elevations."""
+    """Of each booking that is not shown to have its lowest pressure. A verdict on a sheet with nodes out of question counts
+    if its listing is the same to the last bit, as it is where no law but the verdict's reads these elevations."""
     first, found = next(iter(replies.values())), {}
     for booking in hour.bookings:
         step = least(booking, limits)
@@ -94,7 +99,7 @@ def unmet(hour, limits, replies):
         if reply.verdict != SOLD and other is not None and other.text == first.text:
             reply = other
         if reply.verdict != SOLD and not (reply.verdict == TOO_LOW and booking.node < reply.place):
-            found[booking] = reply.place
+            found[booking] = Unmet(step, reply.place if reply.verdict == TOO_LOW else None)
     return found
 
 

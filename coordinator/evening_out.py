@@ -22,13 +22,13 @@ def lowest_of(judged):
     return min((booking.node for booking in judged.hour.bookings), key=judged.answer.pressure)
 
 
-def unmet_words(answer, booking, place):
-    asked = pressure_words(answer.units, booking.least)
-    if place == booking.node:
+def unmet_words(answer, booking, unmet):
+    hydrant, needed = answer.called(booking.node, "hydrant"), pressure_words(answer.units, unmet.least)
+    if unmet.place == booking.node:
         return "%s has %s and is booked with %s at least" % (
-            answer.called(place, "hydrant"), pressure_words(answer.units, answer.pressure(place)), asked)
-    return "%s is booked with %s at least, which the verdict cannot show beside %s, which has less" % (
-        answer.called(booking.node, "hydrant"), asked, answer.called(place))
+            hydrant, pressure_words(answer.units, answer.pressure(booking.node)), needed)
+    return "%s is booked with %s at least, which the verdict cannot show%s" % (
+        hydrant, needed, "" if unmet.place is None else " beside %s, which has less" % answer.called(unmet.place))
 
 
 def reason(judged):
@@ -40,7 +40,7 @@ def reason(judged):
     if not answer.may_be_sold:
         return "; ".join(answer.doubts())
     if judged.unmet:
-        return "; ".join(unmet_words(answer, booking, place) for booking, place in judged.unmet.items())
+        return "; ".join(unmet_words(answer, booking, unmet) for booking, unmet in judged.unmet.items())
     lowest = lowest_of(judged)
     return "%s with %s%s; lowest pressure %s at %s" % (
         counted(len(judged.hour.bookings), "hydrant"), flow_words(answer.units, sum(b.flow for b in judged.hour.bookings)),

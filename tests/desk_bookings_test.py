@@ -13,7 +13,7 @@ import xml.etree.ElementTree as ElementTree
 TOP = os.path.dirname(os.path.dirname(os.path.abspath(__file__)))
 sys.path[:0] = [TOP, os.path.join(TOP, "tools")]
 
-from coordinator import bookings, evening, main, sheet_bounds, sheet_text
+from coordinator import bookings, evening, evening_out, main, sheet_bounds, sheet_text
 from coordinator.asking import NotToBeHad, Reply
 from coordinator.limits import USUAL
 from coordinator.sheet_format import bits
@@ -198,7 +198,13 @@ class Asking(Folder):
         hour = bookings.Hour("1")
         hour.bookings = [bookings.Booking(1, "1", 2, 1.0, None), bookings.Booking(2, "1", 3, 1.0, 9.0)]
         replies = {(0.0, "all"): Reply(0, 0, "x"), (9.0, "all"): Reply(5, 60, "x"), (9.0, "some"): Reply(7, 50, "x")}
-        self.assertEqual(list(evening.unmet(hour, USUAL, replies)), [hour.bookings[1]])
+        self.assertEqual(evening.unmet(hour, USUAL, replies), {hour.bookings[1]: (9.0, None)})
+
+    def test_a_booking_without_its_own_lowest_pressure_has_the_one_of_all(self):
+        status, out, _ = self.desk("1,mill,1 L/s,5 m\n1,end,1 L/s\n", "--least", "20m", program=Program(mill=15.5, end=39.5))
+        self.assertEqual((status, out), (3, "1  no   hydrant 4 (end) has 19.50 m and is booked with 20.00 m at least\n"))
+        status, out, _ = self.desk("1,mill,1 L/s,5 m\n1,end,1 L/s\n", "--least", "20m", program=Program(mill=15.5, end=40.5))
+        self.assertEqual(status, 0)
 
     def test_a_refused_hour(self):
         status, out, _ = self.desk("1,mill,1 L/s\n2,mill,2 L/s\n", program=Program(refused=[2.0]))
@@ -263,6 +269,20 @@ class Out(Folder):
             self.assertIn(word, words)
         with open(picture, encoding="utf-8") as file:
             self.assertEqual(file.read().count("#e58074"), 2)
+
+    def test_a_picture_of_mistakes_alone(self):
+        picture = self.path("p.svg")
+        self.assertEqual(self.desk("1,rigde,1 L/s\n", "--plot", picture)[0], 2)
+        self.assertIn("?", " ".join(ElementTree.parse(picture).getroot().itertext()))
+
+    def test_what_cannot_be_shown_is_said(self):
+        hour = bookings.Hour("1")
+        hour.bookings = [bookings.Booking(1, "1", 2, 1.0, 9.0)]
+        data, scheme = sheet_text.read_scheme(SCHEME)
+        found = evening.Answer("1", data, Program().reply(data, USUAL), names=scheme.names)
+        judged = evening.Judged(hour, found, {hour.bookings[0]: evening.Unmet(9.0, None)})
+        self.assertEqual(evening_out.reason(judged), "hydrant 2 (mill) is booked with 2.74 m at least, which the verdict cannot show")
+        self.assertEqual((judged.exit_status, judged.met(hour.bookings[0])), (3, None))
 
     def test_a_picture_that_cannot_be_written(self):
         for name in (self.path("none/p.svg"), self.path("b.csv")):

@@ -1,8 +1,10 @@
 """The desk: its words, tables, JSON and pictures over stored listings, verdicts told, the undetermined junctions,
 refusals explained, the text form, and what it does with bad arguments. The proved program is not asked here: its
 verdicts are those of the second computation, or made up."""
+import ast
 import contextlib
 import functools
+import glob
 import io
 import json
 import os
@@ -1041,6 +1043,15 @@ class Package(unittest.TestCase):
                                   stderr=subprocess.PIPE, universal_newlines=True, check=False)
             self.assertEqual((done.returncode, done.stderr), (0, ""))
         self.assertTrue(done.stdout.lstrip().startswith("0  OP"), done.stdout)
+
+
+    def test_python_3_9_is_enough(self):
+        found = [name for place in ("coordinator/*.py", "tools/*.py", "bindings/python/*.py")
+                 for name in glob.glob(os.path.join(TOP, place))]
+        self.assertGreater(len(found), 50)
+        for name in found + [os.path.join(TOP, "desk")]:
+            with open(name, encoding="utf-8") as file:
+                ast.parse(file.read(), name, feature_version=(3, 9))
 
 
 class Command(unittest.TestCase):

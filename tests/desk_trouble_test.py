@@ -280,7 +280,29 @@ class Builds(Folder):
         os.utime(self.path("target", "bin", "verdict"), (later - 5, later - 5))
         err, failed = self.without_rt()
         self.assertEqual((err.count("\n"), failed), (1, None))
-        self.assertIn("older than its sources, and `rt` is not on the path", err)
+        self.assertIn("is older than its sources, and the Rattle kit's command `rt`", err)
+        self.assertIn("; it is asked as it is\n", err)
+
+    def test_a_source_of_tomorrow(self):
+        self.have()
+        tomorrow = time.time() + 86400
+        os.utime(self.path("crates", "numbers", "src", "main.rt"), (tomorrow, tomorrow))
+        self.assertIn("is older than its sources", self.have()[0])
+        self.assertEqual(self.have(), ("", None))
+
+    def test_an_old_program_in_a_tree_that_cannot_be_written(self):
+        self.have()
+        os.utime(self.path("target", "bin", "verdict"), (1, 1))
+        with mock.patch("coordinator.building.alone", side_effect=PermissionError(13, "Permission denied")):
+            err, failed = self.have()
+        self.assertIsNone(failed)
+        self.assertIn("cannot be built: [Errno 13] Permission denied; it is asked as it is\n", err)
+
+    def test_an_old_program_whose_sources_are_not_proved_is_not_asked(self):
+        self.have()
+        os.utime(self.path("target", "bin", "verdict"), (1, 1))
+        self.rt("echo verdict NOT PROVED; exit 1")
+        self.assertIn("did not build the program", self.have()[1])
 
     def test_two_at_the_same_time_build_once(self):
         two = [self.start(), self.start()]

@@ -78,6 +78,16 @@ class Commands(unittest.TestCase):
                 self.assertTrue(done.stderr + done.stdout)
 
 
+class Tools(unittest.TestCase):
+    def test_every_tool_stands_in_one_group(self):
+        named = re.findall(r"(\w+\.py)", read("tools/README.md").decode())
+        there = [name for name in os.listdir(os.path.join(TOP, "tools")) if name.endswith(".py")]
+        self.assertEqual(sorted(named), sorted(there))
+
+    def test_none_of_the_desks_own_is_among_them(self):
+        self.assertEqual([name for name in os.listdir(os.path.join(TOP, "tools")) if name.startswith("desk")], [])
+
+
 class WayToACrate(unittest.TestCase):
     def crates(self):
         return set(building.listed())

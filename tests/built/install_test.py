@@ -30,6 +30,12 @@ class Installed(unittest.TestCase):
         cls.prefix = os.path.join(cls.folder.name, "a prefix")
         # what `make install PREFIX=...` runs
         subprocess.run([sys.executable, "tools/install.py", cls.prefix], cwd=TOP, stdout=subprocess.DEVNULL, check=True)
+        # a path with python3 on it and nothing else
+        cls.path = os.path.join(cls.folder.name, "bin")
+        os.mkdir(cls.path)
+        with open(os.path.join(cls.path, "python3"), "w", encoding="utf-8") as file:
+            file.write('#!/bin/sh\nexec "%s" "$@"\n' % sys.executable)
+        os.chmod(os.path.join(cls.path, "python3"), 0o755)
         cls.elsewhere = os.path.join(cls.folder.name, "elsewhere")
         os.mkdir(cls.elsewhere)
         for name in ("june", "looped"):
@@ -38,16 +44,15 @@ class Installed(unittest.TestCase):
             file.write(TEXT)
 
     def desk(self, *args):
-        """The installed command in another folder, with nothing on the path but the machine's own."""
-        python = os.path.dirname(sys.executable)
+        """The installed command in another folder."""
         done = subprocess.run([os.path.join(self.prefix, "bin", "desk"), *args], cwd=self.elsewhere, stdout=subprocess.PIPE,
                               stderr=subprocess.PIPE, universal_newlines=True, check=False,
-                              env={"PATH": python + ":/usr/bin:/bin", "HOME": self.elsewhere})
+                              env={"PATH": self.path, "HOME": self.elsewhere})
         self.assertEqual(done.stderr, "")
         return done.returncode, done.stdout
 
     def test_rt_is_not_on_that_path(self):
-        self.assertIsNone(shutil.which("rt", path=os.path.dirname(sys.executable) + ":/usr/bin:/bin"))
+        self.assertIsNone(shutil.which("rt", path=self.path))
 
     def test_the_package_is_the_installed_one(self):
         code = "import sys; sys.path.insert(0, %r); import coordinator.programs as p; print(p.path('verdict'))" % os.path.join(

@@ -2,7 +2,7 @@
 
    Each call runs in a thread whose stack is painted before; what is below the caller's frame and no longer painted was
    used. Prints `NAME solve BYTES` and `NAME verdict BYTES` for each sheet, then `threads same` if eight threads that
-   solve at the same time, some hundred times each, all get the answers that one gets alone. */
+   solve at the same time, some dozen times each, all get the answers that one gets alone. */
 #include <pthread.h>
 #include <stdio.h>
 #include <stdlib.h>
@@ -13,7 +13,7 @@
 #define STACK (1 << 20)
 #define PAINT 0xA5
 #define THREADS 8
-#define ROUNDS 200
+#define ROUNDS 40
 
 struct room {
     double heads[64], demands[64], flows[128], scratch[4096], totals[3];
@@ -25,7 +25,8 @@ struct job {
     uint8_t sheet[9199];
     size_t length;
     int with_verdict, times;
-    uint8_t *base;
+    /* where the caller's frame is, as a number */
+    uintptr_t base;
     struct room room;
 };
 
@@ -44,7 +45,7 @@ static void *run(void *given)
 {
     struct job *job = given;
     uint8_t here;
-    job->base = &here;
+    job->base = (uintptr_t)&here;
     for (int i = 0; i < job->times; i++)
         call(job);
     return NULL;
@@ -78,7 +79,7 @@ static size_t used(struct job *job)
     pthread_join(thread, NULL);
     while (*lowest == PAINT)
         lowest++;
-    size_t found = (size_t)(job->base - lowest);
+    size_t found = (size_t)(job->base - (uintptr_t)lowest);
     free(stack);
     return found;
 }
