@@ -127,7 +127,7 @@ def picture(name, evening):
             drawn += cell(judged, node, left + wide * k, y, wide)
         y += ROW
     drawn += legend(evening, y + 24)
-    return document(max(560, left + wide * len(nodes) + 16), y + 24 + 3 * LINE, drawn)
+    return document(max(560, left + wide * len(nodes) + 16), y + 24 + 4 * LINE, drawn)
 
 
 def legend(evening, y):
@@ -135,9 +135,9 @@ def legend(evening, y):
     if answer is not None:
         yield text(16, y, "in a booked cell the flow in %s and below it the pressure in %s" % (
             answer.units.flow_name, answer.units.pressure))
-    x = 16
-    for kind, words in ((YES, "may be sold"), (NO, "hour not for sale"), ("place", "and the reason is here"),
-                        (UNANSWERED, "not answered: a line has a mistake")):
-        yield box(x, y + LINE - 10, 14, 11, FILLS[kind])
-        yield text(x + 20, y + LINE, words)
-        x += 34 + LETTER * len(words)
+    # two side by side, so that the narrowest picture has room for them
+    for k, (kind, words) in enumerate(((YES, "may be sold"), (NO, "hour not for sale"), ("place", "and the reason is here"),
+                                       (UNANSWERED, "not answered: a line has a mistake"))):
+        x, below = 16 + 250 * (k % 2), y + LINE * (1 + k // 2)
+        yield box(x, below - 10, 14, 11, FILLS[kind])
+        yield text(x + 20, below, words)

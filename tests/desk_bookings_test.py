@@ -14,6 +14,7 @@ TOP = os.path.dirname(os.path.dirname(os.path.abspath(__file__)))
 sys.path[:0] = [TOP, os.path.join(TOP, "tools")]
 
 from coordinator import bookings, evening, evening_out, main, sheet_bounds, sheet_text
+from coordinator.pictures import LETTER
 from coordinator.asking import NotToBeHad, Reply
 from coordinator.limits import USUAL
 from coordinator.sheet_format import bits
@@ -269,6 +270,17 @@ class Out(Folder):
             self.assertIn(word, words)
         with open(picture, encoding="utf-8") as file:
             self.assertEqual(file.read().count("#e58074"), 2)
+
+    def test_every_word_is_within_the_picture(self):
+        picture = self.path("p.svg")
+        self.desk("18:00,mill,1 L/s\n", "--plot", picture, program=Program())
+        top = ElementTree.parse(picture).getroot()
+        words = [(float(e.get("x")), float(e.get("y")), e.text) for e in top.iter() if e.tag.endswith("text")
+                 and e.get("text-anchor") in (None, "start")]
+        self.assertGreater(len(words), 5)
+        for x, y, text in words:
+            self.assertLessEqual(x + LETTER * len(text), float(top.get("width")), text)
+            self.assertLess(y, float(top.get("height")), text)
 
     def test_a_picture_of_mistakes_alone(self):
         picture = self.path("p.svg")
