@@ -323,7 +323,8 @@ module _ (s : List ℕ) (x : Lent) (l : Layout) (w : Runs s x l) where
   unfolding lastIn
   last-tells z e = sym (solve-ends-by s l .last (some-trials s l (w .read))) ∙ e
 
-  last-is : lastIn s l ≡ trialAt s l (beforeLast s l) .entry
+  -- The last entry is that of a trial of the state before it.
+  pub last-is : lastIn s l ≡ trialAt s l (beforeLast s l) .entry
   unfolding lastIn beforeLast
   last-is = solve-each-entry s l (length (runIn s l .entries) - 1) (omega (arith, solve-ends-by s l .some (some-trials s l (w .read))))
 

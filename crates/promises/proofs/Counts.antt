@@ -147,7 +147,7 @@ written-shows (e ∷ es) i r h (suc j) x =
 
 -- ---- counting
 
-unfoldable has : ℕ → ℕ → Entry → Bool
+unfoldable pub has : ℕ → ℕ → Entry → Bool
 has a b e = eqb (markOf e .0) a && eqb (markOf e .1) b
 
 unfoldable having : ℕ → ℕ → List Entry → ℕ
@@ -257,7 +257,7 @@ module _ (s : List ℕ) (x : Lent) where
 -- ---- the record shows no other repair
 
 module _ (bytes : List ℕ) (i : ℕ) (e : Entry) (w : Shown bytes i e) where
-  shows : (a b : ℕ) → marked a b bytes i ≡ has a b e
+  pub shows : (a b : ℕ) → marked a b bytes i ≡ has a b e
   unfolding marked has
   shows a b = rw (w .first, w .second)
 

@@ -17,3 +17,4 @@ pub mod Quick
 pub mod Example
 pub mod Sold
 pub mod Flips
+pub mod Grounding

@@ -26,7 +26,7 @@ use Rattle.promises.proofs.Trials.{each-entry, each-state}
 use Rattle.promises.proofs.Bound.{stop-node, room-after, start-room}
 
 module _ (s : List ℕ) (l : Layout) where
-  -- No trial clears a mark,
+  -- No trial clears a mark.
   pub mark-stays : (p : Point) (v : ℕ) → getD (p .state .grounded) v false ≡ true → getD (trialAt s l p .state .grounded) v false ≡ true
   unfolding stepOf
   mark-stays p v h =
@@ -35,14 +35,15 @@ module _ (s : List ℕ) (l : Layout) where
       (λ u w. getD-set-other (p .state .grounded) u v true false (λ e. never (sym (w .yet) ∙ ap (λ (i : ℕ). getD (p .state .grounded) i false) (sym e) ∙ h)) ∙ h)
       (λ u w. h) (λ g y x. h)
 
-  marks-stay : (c i : ℕ) (p : Point) (v : ℕ) → getD (afterTrials s l i p .state .grounded) v false ≡ true → getD (afterTrials s l (c + i) p .state .grounded) v false ≡ true
+  pub marks-stay : (c i : ℕ) (p : Point) (v : ℕ) → getD (afterTrials s l i p .state .grounded) v false ≡ true → getD (afterTrials s l (c + i) p .state .grounded) v false ≡ true
   marks-stay zero i p v h = rw zero-add h
   marks-stay (suc c) i p v h =
       rw suc-add
       (ap (λ (t : State). getD (t .grounded) v false) (each-state s l (c + i) p)
       ∙ mark-stays (afterTrials s l (c + i) p) v (marks-stay c i p v h))
 
-  marked : l .unknowns ≡ serving s l (l .nodes) → (i : ℕ) (p : Point) → Room l (p .state) → (v : ℕ) → Grounds s l (afterTrials s l i p .state) v → getD (afterTrials s l (suc i) p .state .grounded) v false ≡ true
+  -- A trial that grounds a node sets its mark,
+  pub marked : l .unknowns ≡ serving s l (l .nodes) → (i : ℕ) (p : Point) → Room l (p .state) → (v : ℕ) → Grounds s l (afterTrials s l i p .state) v → getD (afterTrials s l (suc i) p .state .grounded) v false ≡ true
   marked right i p w v g =
       let at = afterTrials s l i p in
       ap (λ (t : State). getD (t .grounded) v false) (each-state s l i p)

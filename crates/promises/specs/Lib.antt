@@ -13,3 +13,5 @@ pub mod Causes
 pub mod Example
 pub mod Sold
 pub mod Flips
+pub mod Grounding
+pub mod Statements

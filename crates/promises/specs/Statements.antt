@@ -1,0 +1,37 @@
+-- What is promised of every solve, one closed statement each, by the definitions of the other files; its proof bears its name in small letters. Definitions only.
+use Prim.Native.Nat.{ℕ, _-_, _≤_}
+use mathlib.Core.Path.{_≡_}
+use mathlib.Core.Logic.{_↔_}
+use mathlib.Core.Bool.{false}
+use mathlib.Core.List.{List}
+use lib.ListN.{length, getD}
+use Rattle.layout.specs.declared.places.Layout.{Layout}
+use Rattle.sheet.specs.Read.{readOf}
+use Rattle.sheet.specs.declared.reading.Reading.the-variants.{Good}
+use Rattle.answers.specs.Answers.{Lent}
+use Rattle.solver.specs.Solve.{startOf, solveOf}
+use Rattle.promises.specs.Trials.{runIn}
+use Rattle.promises.specs.Solves.{Runs}
+use Rattle.promises.specs.Grounding.{Carries, Entered, GnBefore, SixShown}
+
+-- ---- a mark has its entry
+
+-- a solve begins with no node grounded
+abbrev pub UnmarkedAtStart : Type 0
+UnmarkedAtStart = (s : List ℕ) (l : Layout) (v : ℕ) → getD (startOf s l .grounded) v false ≡ false
+
+-- before each of its trials, and after its last, a node carries the grounded mark if and only if an earlier entry is its GN
+abbrev pub MarkHasEntry : Type 0
+MarkHasEntry = (s : List ℕ) (l : Layout) → readOf s ≡ Good l → (i v : ℕ) → i ≤ length (runIn s l .entries) → Carries s l i v ↔ Entered s l i v
+
+-- that entry stands in the record that is handed back
+abbrev pub MarkIsShown : Type 0
+MarkIsShown = (s : List ℕ) (b : Lent) (l : Layout) → Runs s b l → (i v : ℕ) → i ≤ solveOf s b .answer .trials → Carries s l i v ↔ GnBefore (solveOf s b .lent .entries) i v
+
+-- 6 names a node whose GN is an entry before the last
+abbrev pub SixWasGrounded : Type 0
+SixWasGrounded = (s : List ℕ) (b : Lent) → solveOf s b .answer .number ≡ 6 → (l : Layout) × (Runs s b l × Entered s l (length (runIn s l .entries) - 1) (solveOf s b .answer .place))
+
+-- and both its GN and its SG stand in the record
+abbrev pub SixIsShown : Type 0
+SixIsShown = (s : List ℕ) (b : Lent) → solveOf s b .answer .number ≡ 6 → SixShown (solveOf s b)
