@@ -43,12 +43,12 @@ use Rattle.answers.specs.Answers.{Lent, Solved, failedOf, refusedOf}
 use Rattle.conclusion.specs.Conclusion.{unsolved, delivered, told}
 use Rattle.solver.specs.Solve.{trialsOf, afterShort, afterRead, solveWith, solveOf}
 use Rattle.promises.specs.Repairs.{Refuses}
-use Rattle.promises.specs.Trials.{Point, point, trialAt, runAt, startPoint, runIn}
+use Rattle.promises.specs.Trials.{Point, point, trialAt, runAt, startPoint, runIn, pointIn}
 use Rattle.promises.specs.Solves.{shortIn, Runs}
 use Rattle.promises.specs.Causes.{endNumber, endPlace, Cause, sheet, short, ended, endBy, EndsBy, lastIn, beforeLast}
 use Rattle.promises.proofs.Never.{other}
 use Rattle.promises.proofs.Repairs.{refused-only}
-use Rattle.promises.proofs.Trials.{solve-each-entry}
+use Rattle.promises.proofs.Trials.{solve-each-entry, solve-each-state, solve-last-state}
 use Rattle.promises.proofs.Solves.{comes, ways, tells}
 use Rattle.promises.proofs.Counts.{trials-are}
 
@@ -323,10 +323,18 @@ module _ (s : List ℕ) (x : Lent) (l : Layout) (w : Runs s x l) where
   unfolding lastIn
   last-tells z e = sym (solve-ends-by s l .last (some-trials s l (w .read))) ∙ e
 
-  -- The last entry is that of a trial of the state before it.
+  -- The last entry is that of a trial of the state before it,
   pub last-is : lastIn s l ≡ trialAt s l (beforeLast s l) .entry
   unfolding lastIn beforeLast
   last-is = solve-each-entry s l (length (runIn s l .entries) - 1) (omega (arith, solve-ends-by s l .some (some-trials s l (w .read))))
+
+  -- and the state that the run leaves is the one that this trial leaves.
+  pub last-leaves : runIn s l .state ≡ trialAt s l (beforeLast s l) .state
+  unfolding beforeLast
+  last-leaves =
+      let n = length (runIn s l .entries) in
+      let e : n ≡ suc (n - 1) = omega (arith, solve-ends-by s l .some (some-trials s l (w .read))) in
+      solve-last-state s l ∙ ap (λ (i : ℕ). pointIn s l i .state) e ∙ solve-each-state s l (n - 1)
 
   at-converged : (z : Ended) → runIn s l .ended ≡ z → endNumber z ≡ 0 → (flip : Flip) × (lastIn s l ≡ Converged flip)
   unfolding endNumber

@@ -18,3 +18,4 @@ pub mod Example
 pub mod Sold
 pub mod Flips
 pub mod Grounding
+pub mod Wilds

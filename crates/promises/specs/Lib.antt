@@ -14,4 +14,5 @@ pub mod Example
 pub mod Sold
 pub mod Flips
 pub mod Grounding
+pub mod Wilds
 pub mod Statements

@@ -12,6 +12,7 @@ use Rattle.answers.specs.Answers.{Lent}
 use Rattle.solver.specs.Solve.{startOf, solveOf}
 use Rattle.promises.specs.Trials.{runIn}
 use Rattle.promises.specs.Solves.{Runs}
+use Rattle.promises.specs.Wilds.{WildAt}
 use Rattle.promises.specs.Grounding.{Carries, Entered, GnBefore, SixShown}
 
 -- ---- a mark has its entry
@@ -35,3 +36,9 @@ SixWasGrounded = (s : List ℕ) (b : Lent) → solveOf s b .answer .number ≡ 6
 -- and both its GN and its SG stand in the record
 abbrev pub SixIsShown : Type 0
 SixIsShown = (s : List ℕ) (b : Lent) → solveOf s b .answer .number ≡ 6 → SixShown (solveOf s b)
+
+-- ---- what stands at the place
+
+-- 7: of the columns that the last trial leaves, the head, flow or drawn flow at the place is NaN, infinite or at least 2^64 in magnitude, and none before it in that order is
+abbrev pub SevenFirstWild : Type 0
+SevenFirstWild = (s : List ℕ) (b : Lent) → solveOf s b .answer .number ≡ 7 → (l : Layout) × (Runs s b l × WildAt l (runIn s l .state) (solveOf s b .answer .place))
