@@ -66,9 +66,9 @@ recoded-other c i j Stays n = refl
 recoded-other c i j (Becomes new cause) n = getD-set-other c i j (statusCode new) 0 n
 
 -- two states of the columns agree at link j
-record Same (w w₀ : Stepping) (j : ℕ) : Type 0 where
-  flow : getD (w .flows) j nan ≡ getD (w₀ .flows) j nan
-  code : getD (w .codes) j 0 ≡ getD (w₀ .codes) j 0
+pub record Same (w w₀ : Stepping) (j : ℕ) : Type 0 where
+  pub flow : getD (w .flows) j nan ≡ getD (w₀ .flows) j nan
+  pub code : getD (w .codes) j 0 ≡ getD (w₀ .codes) j 0
 
 module _ (s : List ℕ) (l : Layout) (b : Basis) where
   update-other : (i j : ℕ) (w : Stepping) → (j ≡ i → ⊥) → Same (linkUpdate s l b (linkOf s l i) i w) w j
@@ -83,7 +83,7 @@ module _ (s : List ℕ) (l : Layout) (b : Basis) where
       go false = record { flow = getD-set-other (w .flows) i j constant.zero nan n; code = refl }
 
   -- the first n links leave those from n on as they were
-  later : (n j : ℕ) (w : Stepping) → n ≤ j → Same (linkUpdates s l b n w) w j
+  pub later : (n j : ℕ) (w : Stepping) → n ≤ j → Same (linkUpdates s l b n w) w j
   unfolding linkUpdates
   later zero j w h = record { flow = refl; code = refl }
   later (suc n) j w h =

@@ -19,3 +19,4 @@ pub mod Sold
 pub mod Flips
 pub mod Grounding
 pub mod Wilds
+pub mod Convergence

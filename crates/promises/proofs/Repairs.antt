@@ -30,7 +30,7 @@ use Rattle.drawn.specs.Drawn.{draws, drawnOf}
 use Rattle.wild.specs.Wild.{wildPlace}
 use Rattle.update.specs.Update.{basis, updateOf}
 use Rattle.update.specs.declared.Stats.{Stats}
-use Rattle.repair.specs.Repair.{touches, regulatesAt, regulatorFrom, regulatorAt}
+use Rattle.repair.specs.Repair.{touches, regulatesAt, regulatorFrom, regulatorAt, ground, free, repairAt}
 use Rattle.entries.specs.declared.Entry.{Entry}
 use Rattle.causes.specs.declared.Flip.{Flip}
 use Rattle.entries.specs.declared.Entry.the-variants.{Freed, Grounded, Singular, Stepped, Converged}
@@ -107,6 +107,16 @@ regulates s l codes node j e =
 
 -- ---- the ways of a trial
 
+ground-fails : (b : Bool) (codes : List ℕ) (marks : List Bool) (node : ℕ) → fails (ground b codes marks node .entry) ≡ true
+unfolding ground fails
+ground-fails true codes marks node = refl
+ground-fails false codes marks node = refl
+
+free-fails : (f : Found) (codes : List ℕ) (marks : List Bool) (node : ℕ) → fails (free f codes marks node .entry) ≡ true
+unfolding free fails
+free-fails (At j) codes marks node = refl
+free-fails Nothing codes marks node = ground-fails (getD marks node false) codes marks node
+
 judged-steps : (o : Options) (d : Damping) (m : Stats) (flip : Flip) → fails (judged o d m flip) ≡ false
 unfolding judged fails
 judged-steps o d m flip = go (convergedOf (relativeChange (m .moved) (m .total) (o .accuracy)) (o .accuracy) (m .changed) (m .largest) (o .unit) (o .change)) _
@@ -142,6 +152,11 @@ module _ (s : List ℕ) (l : Layout) (d : Damping) (t : State) where
   stops : (v : ℕ) → stopOf s l t ≡ At v → trialOf s l d t ≡ repairOf s l t v
   unfolding trialWith stopOf
   stops v e = let a = systemOf s l t in stopped v a (factorOf (l .unknowns) (a .matrix) .matrix) (factorOf (l .unknowns) (a .matrix) .answer) e
+
+  -- where the factorization stops, the trial fails
+  pub stop-fails : (v : ℕ) → stopOf s l t ≡ At v → fails (trialOf s l d t .entry) ≡ true
+  unfolding repairOf repairAt
+  stop-fails v e = rw (stops v e) (free-fails (regulatorAt s l (t .statuses) v) (t .statuses) (t .grounded) v)
 
   done : (a : System) (z : List Float) (f : Factored) → stopNode s l f ≡ Nothing → factored repairOf s l d t a z f ≡ stepOf s l d t (a .g) (a .y) (solved z (l .unknowns) (a .rhs))
   unfolding factored stopNode

@@ -15,4 +15,5 @@ pub mod Sold
 pub mod Flips
 pub mod Grounding
 pub mod Wilds
+pub mod Convergence
 pub mod Statements

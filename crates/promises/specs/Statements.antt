@@ -12,6 +12,7 @@ use Rattle.answers.specs.Answers.{Lent}
 use Rattle.solver.specs.Solve.{startOf, solveOf}
 use Rattle.promises.specs.Trials.{runIn}
 use Rattle.promises.specs.Solves.{Runs}
+use Rattle.promises.specs.Convergence.{SolveConverges}
 use Rattle.promises.specs.Wilds.{WildAt}
 use Rattle.promises.specs.Grounding.{Carries, Entered, GnBefore, SixShown}
 
@@ -42,3 +43,10 @@ SixIsShown = (s : List ℕ) (b : Lent) → solveOf s b .answer .number ≡ 6 →
 -- 7: of the columns that the last trial leaves, the head, flow or drawn flow at the place is NaN, infinite or at least 2^64 in magnitude, and none before it in that order is
 abbrev pub SevenFirstWild : Type 0
 SevenFirstWild = (s : List ℕ) (b : Lent) → solveOf s b .answer .number ≡ 7 → (l : Layout) × (Runs s b l × WildAt l (runIn s l .state) (solveOf s b .answer .place))
+
+-- ---- what 0 says
+
+-- of the last trial's step: the relative change is below the accuracy, no status changed that counts, the largest flow change in the sheet's unit is below the one allowed, or
+-- below BIG_VALUE where that is 0; and nothing that it leaves is wild
+abbrev pub ZeroConverges : Type 0
+ZeroConverges = (s : List ℕ) (b : Lent) → solveOf s b .answer .number ≡ 0 → (l : Layout) × (Runs s b l × SolveConverges s l)
