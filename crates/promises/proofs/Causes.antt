@@ -130,7 +130,7 @@ most-four LinkCount = omega arith
 most-four (Field p) = omega arith
 most-four (Ends p) = omega arith
 
-end-past : (z : Ended) → 1 ≤ endNumber z → endNumber z ≤ 5 → ⊥
+pub end-past : (z : Ended) → 1 ≤ endNumber z → endNumber z ≤ 5 → ⊥
 unfolding endNumber
 end-past Balanced a b = omega arith
 end-past (Failed v) a b = omega arith

@@ -20,3 +20,4 @@ pub mod Flips
 pub mod Grounding
 pub mod Wilds
 pub mod Convergence
+pub mod Places

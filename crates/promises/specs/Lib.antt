@@ -16,4 +16,5 @@ pub mod Flips
 pub mod Grounding
 pub mod Wilds
 pub mod Convergence
+pub mod Places
 pub mod Statements

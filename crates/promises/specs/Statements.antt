@@ -9,9 +9,10 @@ use Rattle.layout.specs.declared.places.Layout.{Layout}
 use Rattle.sheet.specs.Read.{readOf}
 use Rattle.sheet.specs.declared.reading.Reading.the-variants.{Good}
 use Rattle.answers.specs.Answers.{Lent}
-use Rattle.solver.specs.Solve.{startOf, solveOf}
+use Rattle.solver.specs.Solve.{trialsOf, startOf, solveOf}
 use Rattle.promises.specs.Trials.{runIn}
 use Rattle.promises.specs.Solves.{Runs}
+use Rattle.promises.specs.Places.{RefusedFor, ShortAt}
 use Rattle.promises.specs.Convergence.{SolveConverges}
 use Rattle.promises.specs.Wilds.{WildAt}
 use Rattle.promises.specs.Grounding.{Carries, Entered, GnBefore, SixShown}
@@ -39,6 +40,14 @@ abbrev pub SixIsShown : Type 0
 SixIsShown = (s : List ℕ) (b : Lent) → solveOf s b .answer .number ≡ 6 → SixShown (solveOf s b)
 
 -- ---- what stands at the place
+
+-- 1 to 4: what the number means stands at the place, nothing of the kind stands before it, and no lower number has a cause
+abbrev pub PlaceOfSheet : Type 0
+PlaceOfSheet = (s : List ℕ) (b : Lent) → 1 ≤ solveOf s b .answer .number → solveOf s b .answer .number ≤ 4 → RefusedFor s (solveOf s b .answer .number) (solveOf s b .answer .place)
+
+-- 5: the sheet is read, the buffer at the place is too short for it, and each lower one is long enough
+abbrev pub PlaceOfBuffer : Type 0
+PlaceOfBuffer = (s : List ℕ) (b : Lent) → solveOf s b .answer .number ≡ 5 → (l : Layout) × ((readOf s ≡ Good l) × ShortAt l (trialsOf s) b (solveOf s b .answer .place))
 
 -- 7: of the columns that the last trial leaves, the head, flow or drawn flow at the place is NaN, infinite or at least 2^64 in magnitude, and none before it in that order is
 abbrev pub SevenFirstWild : Type 0
