@@ -107,7 +107,7 @@ sg-has : (v : ℕ) → has 83 71 (Singular (record { 0 = v })) ≡ true
 unfolding has markOf
 sg-has v = refl
 
-gn-number : (v : NodeIndex) → markOf (Grounded v) .2 ≡ v .0
+pub gn-number : (v : NodeIndex) → markOf (Grounded v) .2 ≡ v .0
 unfolding markOf
 gn-number v = refl
 

@@ -21,3 +21,4 @@ pub mod Grounding
 pub mod Wilds
 pub mod Convergence
 pub mod Places
+pub mod Shown

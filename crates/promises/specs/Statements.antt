@@ -1,16 +1,19 @@
 -- What is promised of every solve, one closed statement each, by the definitions of the other files; its proof bears its name in small letters. Definitions only.
-use Prim.Native.Nat.{ℕ, _-_, _≤_}
+use Prim.Native.Nat.{ℕ, _+_, _-_, _≤_, _<_}
 use mathlib.Core.Path.{_≡_}
 use mathlib.Core.Logic.{_↔_}
-use mathlib.Core.Bool.{false}
+use mathlib.Core.Bool.{true, false}
 use mathlib.Core.List.{List}
 use lib.ListN.{length, getD}
 use Rattle.layout.specs.declared.places.Layout.{Layout}
+use Rattle.nodes.specs.Nodes.{serving}
 use Rattle.sheet.specs.Read.{readOf}
 use Rattle.sheet.specs.declared.reading.Reading.the-variants.{Good}
 use Rattle.answers.specs.Answers.{Lent}
 use Rattle.solver.specs.Solve.{trialsOf, startOf, solveOf}
-use Rattle.promises.specs.Trials.{runIn}
+use Rattle.promises.specs.Trials.{runIn, pointIn}
+use Rattle.promises.specs.Marks.{marked, numberAt}
+use Rattle.promises.specs.Bound.{failsAt, active}
 use Rattle.promises.specs.Solves.{Runs}
 use Rattle.promises.specs.Places.{RefusedFor, ShortAt}
 use Rattle.promises.specs.Convergence.{SolveConverges}
@@ -38,6 +41,20 @@ SixWasGrounded = (s : List ℕ) (b : Lent) → solveOf s b .answer .number ≡ 6
 -- and both its GN and its SG stand in the record
 abbrev pub SixIsShown : Type 0
 SixIsShown = (s : List ℕ) (b : Lent) → solveOf s b .answer .number ≡ 6 → SixShown (solveOf s b)
+
+-- ---- the end of repairs, by the bytes of the record
+
+-- with U junctions in service and V regulators Active before trial i, no more than V + U + 1 entries with the letters VF, GN or SG stand one behind the other from the ith on
+abbrev pub RepairsEndShown : Type 0
+RepairsEndShown =
+    (s : List ℕ) (b : Lent) (l : Layout) → Runs s b l → (i n : ℕ) → i + n ≤ solveOf s b .answer .trials → ((j : ℕ) → j < n → failsAt (solveOf s b .lent .entries) (i + j) ≡ true)
+    → n ≤ active s l (pointIn s l i .state) + serving s l (l .nodes) + 1
+
+-- no two GN entries have the same number
+abbrev pub GroundedOnceShown : Type 0
+GroundedOnceShown =
+    (s : List ℕ) (b : Lent) (i j : ℕ) → i < j → j < solveOf s b .answer .trials → marked 71 78 (solveOf s b .lent .entries) i ≡ true → marked 71 78 (solveOf s b .lent .entries) j ≡ true
+    → numberAt (solveOf s b .lent .entries) i ≡ numberAt (solveOf s b .lent .entries) j → ⊥
 
 -- ---- what stands at the place
 
