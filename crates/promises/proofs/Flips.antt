@@ -55,7 +55,7 @@ use Rattle.promises.specs.Trials.{runIn, pointIn}
 use Rattle.promises.specs.Solves.{Runs}
 use Rattle.promises.proofs.Never.{other, never}
 use Rattle.promises.proofs.Trials.{solve-each-entry}
-use Rattle.promises.proofs.Counts.{shown, number-shown}
+use Rattle.promises.proofs.Counts.{entry-shown, number-shown}
 use Rattle.promises.proofs.Repairs as repairs
 
 -- ---- a link's update leaves the others as they were
@@ -179,7 +179,7 @@ unfolding markOf
 number-of-steps e flip = ⊎-elim (λ (h : e ≡ Converged flip). ap (λ (y : Entry). markOf y .2) h) (λ w. ap (λ (y : Entry). markOf y .2) (w .1))
 
 low-byte : (s : List ℕ) (x : Lent) (l : Layout) (w : Runs s x l) (i : ℕ) → i < length (runIn s l .entries) → getD (solveOf s x .lent .entries) (4 * i + 2) 0 < 256
-low-byte s x l w i h = omega (arith, shown s x l w i h .low)
+low-byte s x l w i h = omega (arith, entry-shown s x l w i h .low)
 
 -- the low byte is the link's number plus 1, or 0; the high one is the cause
 bytes-tell : (flip : Flip) (n low high : ℕ) → n ≤ 128 → low + 256 * high ≡ flipNumber flip → low < 256 → ((i : LinkIndex) (c : Cause) → flip ≡ Link i c → i .0 < n) → Bytes flip low high

@@ -33,7 +33,7 @@ use Rattle.promises.proofs.Repairs.{ways, refuses, grounded-only}
 use Rattle.promises.proofs.Trials.{solve-each-entry, solve-each-state}
 use Rattle.promises.proofs.Bound.{start-room}
 use Rattle.promises.proofs.Once as once
-use Rattle.promises.proofs.Counts.{has, shows, shown, number-shown, gn-grounded, trials-are}
+use Rattle.promises.proofs.Counts.{has, shows, entry-shown, number-shown, gn-grounded, trials-are}
 use Rattle.promises.proofs.Causes.{runs-a-trial, last-is, six-singular}
 
 -- ---- the start
@@ -119,7 +119,7 @@ module _ (s : List ℕ) (x : Lent) (l : Layout) (w : Runs s x l) where
   bytes-of : (i : ℕ) → i < length (runIn s l .entries) → (a b : ℕ) (e : Entry) → getD (runIn s l .entries) i noEntry ≡ e
       → (marked a b (solveOf s x .lent .entries) i ≡ has a b e) × (numberAt (solveOf s x .lent .entries) i ≡ markOf e .2)
   bytes-of i h a b e is = (
-    shows (solveOf s x .lent .entries) i (getD (runIn s l .entries) i noEntry) (shown s x l w i h) a b ∙ ap (has a b) is,
+    shows (solveOf s x .lent .entries) i (getD (runIn s l .entries) i noEntry) (entry-shown s x l w i h) a b ∙ ap (has a b) is,
     number-shown s x l w i h ∙ ap (λ (y : Entry). markOf y .2) is,
   )
 

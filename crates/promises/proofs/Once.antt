@@ -7,9 +7,7 @@ use native.Mathlib.Omega.{arith}
 use native.Mathlib.Nat.{zero-add, suc-add}
 use lib.ListN.{length, getD}
 use lib.Seq.{getD-set-same, getD-set-other}
-use Rattle.sheet.specs.Read.{readOf}
 use Rattle.layout.specs.declared.places.Layout.{Layout}
-use Rattle.sheet.specs.declared.reading.Reading.the-variants.{Good}
 use Rattle.nodes.specs.declared.NodeIndex.{NodeIndex}
 use Rattle.state.specs.State.{State}
 use Rattle.entries.specs.Entries.{noEntry}
@@ -20,6 +18,7 @@ use Rattle.promises.specs.Repairs.{Grounds}
 use Rattle.nodes.specs.Nodes.{serving}
 use Rattle.solver.proofs.Laws.{network-of}
 use Rattle.promises.specs.Trials.{Point, trialAt, runAt, afterTrials, startPoint, runIn}
+use Rattle.promises.specs.Statements.{SolveGroundedOnce}
 use Rattle.promises.proofs.Never.{never}
 use Rattle.promises.proofs.Repairs.{ways, grounds, grounded-only}
 use Rattle.promises.proofs.Trials.{each-entry, each-state}
@@ -63,7 +62,6 @@ module _ (s : List ℕ) (l : Layout) where
       never (sym (second .yet) ∙ ap (λ (c : ℕ). getD (afterTrials s l c p .state .grounded) (v .0) false) (sym e) ∙ on)
 
 -- Of the solve of any sheet.
-pub solve-grounded-once : (s : List ℕ) (l : Layout) → readOf s ≡ Good l → (v : NodeIndex) (i j : ℕ) → i < j → j < length (runIn s l .entries)
-    → getD (runIn s l .entries) i noEntry ≡ Grounded v → getD (runIn s l .entries) j noEntry ≡ Grounded v → ⊥
+pub solve-grounded-once : SolveGroundedOnce
 unfolding runIn startPoint
 solve-grounded-once s l e = grounded-once s l (network-of s l e .unknowns) (trialsOf s) (startPoint s l) (start-room s l e)

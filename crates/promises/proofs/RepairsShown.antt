@@ -25,7 +25,7 @@ use Rattle.promises.specs.Solves.{Runs}
 use Rattle.promises.specs.Mended.{mended}
 use Rattle.promises.specs.Trials.{runIn}
 use Rattle.promises.proofs.Never.{never}
-use Rattle.promises.proofs.Counts.{written-shows, shown, trials-are}
+use Rattle.promises.proofs.Counts.{written-shows, entry-shown, trials-are}
 use Rattle.promises.proofs.Unmended.{unmarked-is-bare}
 
 -- an entry's letters are VF or GN
@@ -59,7 +59,7 @@ written-mends es r long i h =
 module _ (s : List ℕ) (x : Lent) (l : Layout) (w : Runs s x l) where
   pub solve-mends : (i : ℕ) → i < length (runIn s l .entries) → shows (solveOf s x .lent .entries) i ≡ mended s l i
   unfolding mended
-  solve-mends i h = shows-mends (solveOf s x .lent .entries) i (getD (runIn s l .entries) i noEntry) (shown s x l w i h)
+  solve-mends i h = shows-mends (solveOf s x .lent .entries) i (getD (runIn s l .entries) i noEntry) (entry-shown s x l w i h)
 
   search-is : repairShown (solveOf s x .lent .entries) (solveOf s x .answer .trials) ≡ firstOf (shows (solveOf s x .lent .entries)) (length (runIn s l .entries))
   unfolding repairShown

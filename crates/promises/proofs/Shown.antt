@@ -23,7 +23,7 @@ use Rattle.promises.specs.Statements.{RepairsEndShown, GroundedOnceShown
 use Rattle.promises.proofs.Bound.{solve-repairs-end}
 use Rattle.promises.proofs.Once.{solve-grounded-once}
 use Rattle.promises.proofs.Solves.{comes, ways}
-use Rattle.promises.proofs.Counts.{has, shows, shown, number-shown, gn-grounded, trials-are}
+use Rattle.promises.proofs.Counts.{has, shows, entry-shown, number-shown, gn-grounded, trials-are}
 use Rattle.promises.proofs.Grounding.{gn-number}
 
 -- ---- the bound
@@ -57,7 +57,7 @@ repairs-end-shown s x l w i c h f =
     let n = trials-are s x l w in
     let most = solve-repairs-end s l (w .read) i in
     let least = failing-least (drop i es) c (omega (arith, length-drop i es, h, n))
-    (λ j z. ap fails (getD-drop i es j noEntry) ∙ sym (fails-shown (solveOf s x .lent .entries) (i + j) (getD es (i + j) noEntry) (shown s x l w (i + j) (omega (arith, z, h, n)))) ∙ f j z) in
+    (λ j z. ap fails (getD-drop i es j noEntry) ∙ sym (fails-shown (solveOf s x .lent .entries) (i + j) (getD es (i + j) noEntry) (entry-shown s x l w (i + j) (omega (arith, z, h, n)))) ∙ f j z) in
     omega (arith, most, least)
 
 -- ---- grounded once
