@@ -29,7 +29,7 @@ use Rattle.promises.specs.Marks.{marked, numberAt}
 use Rattle.promises.specs.Grounding.{Carries, Entered, GnBefore, SixShown}
 use Rattle.promises.specs.Statements.{UnmarkedAtStart, MarkHasEntry, MarkIsShown, SixWasGrounded, SixIsShown}
 use Rattle.promises.proofs.Never.{never}
-use Rattle.promises.proofs.Repairs.{ways, refuses, grounded-only}
+use Rattle.promises.proofs.Repairs.{ways, trial-refuses, grounded-only}
 use Rattle.promises.proofs.Trials.{solve-each-entry, solve-each-state}
 use Rattle.promises.proofs.Bound.{start-room}
 use Rattle.promises.proofs.Once as once
@@ -162,7 +162,7 @@ module _ (s : List ℕ) (x : Lent) (l : Layout) (w : Runs s x l) where
       let v = solveOf s x .answer .place in
       let bytes = solveOf s x .lent .entries in
       let q : solveOf s x .answer .trials - 1 ≡ length (runIn s l .entries) - 1 = omega (arith, trials-are s x l w) in
-      let last = last-at (Singular (record { 0 = v })) (last-is s x l w ∙ ap (λ (o : Outcome). o .entry) (refuses s l (beforeLast s l .damping) (beforeLast s l .state) v f)) in
+      let last = last-at (Singular (record { 0 = v })) (last-is s x l w ∙ ap (λ (o : Outcome). o .entry) (trial-refuses s l (beforeLast s l .damping) (beforeLast s l .state) v f)) in
       let b = bytes-of s x l w (length (runIn s l .entries) - 1) (omega (arith, trials-are s x l w, runs-a-trial s x l w)) 83 71 (Singular (record { 0 = v })) last in
       record {
         mark = ap (λ (i : ℕ). marked 83 71 bytes i) q ∙ b .0 ∙ sg-has v;

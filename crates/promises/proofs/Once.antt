@@ -20,7 +20,7 @@ use Rattle.solver.proofs.Laws.{network-of}
 use Rattle.promises.specs.Trials.{Point, trialAt, runAt, afterTrials, startPoint, runIn}
 use Rattle.promises.specs.Statements.{SolveGroundedOnce}
 use Rattle.promises.proofs.Never.{never}
-use Rattle.promises.proofs.Repairs.{ways, grounds, grounded-only}
+use Rattle.promises.proofs.Repairs.{ways, trial-grounds, grounded-only}
 use Rattle.promises.proofs.Trials.{each-entry, each-state}
 use Rattle.promises.proofs.Bound.{stop-node, room-after, start-room}
 
@@ -46,7 +46,7 @@ module _ (s : List ℕ) (l : Layout) where
   marked right i p w v g =
       let at = afterTrials s l i p in
       ap (λ (t : State). getD (t .grounded) v false) (each-state s l i p)
-      ∙ ap (λ (o : Outcome). getD (o .state .grounded) v false) (grounds s l (at .damping) (at .state) v g)
+      ∙ ap (λ (o : Outcome). getD (o .state .grounded) v false) (trial-grounds s l (at .damping) (at .state) v g)
       ∙ getD-set-same (at .state .grounded) v true false (omega (arith, room-after s l right i p w .grounded, stop-node s l right (at .state) v (g .stops) .0))
 
   -- so no two entries of a run ground one node. For every number of nodes, links and trials.

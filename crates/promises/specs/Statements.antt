@@ -1,4 +1,4 @@
--- What is promised of every solve, one closed statement each, by the definitions of the other files; its proof bears its name in small letters. Definitions only.
+-- What is promised of every trial, solve and verdict, one closed statement each, by the definitions of the other files; its proof bears its name in small letters. Definitions only.
 use Prim.Native.Nat.{ℕ, suc, _+_, _-_, _≤_, _<_}
 use mathlib.Core.Path.{_≡_}
 use mathlib.Core.Logic.{_↔_}
@@ -18,14 +18,20 @@ use Rattle.sheet.specs.Read.{readOf}
 use Rattle.sheet.specs.declared.reading.Reading.the-variants.{Good}
 use Rattle.causes.specs.declared.Flip.{Flip}
 use Rattle.entries.specs.Entries.{noEntry}
-use Rattle.entries.specs.declared.Entry.the-variants.{Freed, Grounded, Wild, Converged}
+use Rattle.entries.specs.declared.Entry.the-variants.{Freed, Grounded, Singular, Wild, Converged}
 use Rattle.marks.specs.Marks.{markOf}
-use Rattle.trial.specs.Trial.{noRepair}
+use Rattle.state.specs.State.{State}
+use Rattle.damping.specs.declared.steps.Damping.{Damping}
+use Rattle.trial.specs.Trial.{outcome, noRepair, trialOf}
 use Rattle.answers.specs.Answers.{Lent, Solved}
 use Rattle.answers.specs.declared.Answer.{Answer}
 use Rattle.solver.specs.Solve.{trialsOf, startOf, solveWith, solveOf}
+use Rattle.found.specs.declared.Found.the-variants.{Nothing}
+use Rattle.repairs_shown.specs.Shown.{repairShown}
+use Rattle.tolerance.specs.declared.Limits.{Limits}
+use Rattle.sale.specs.Sale.{saleOf}
 use Rattle.promises.specs.Count.{count}
-use Rattle.promises.specs.Repairs.{Refuses}
+use Rattle.promises.specs.Repairs.{Frees, Grounds, Refuses, freedIn, groundedIn, fails, Spared}
 use Rattle.promises.specs.Trials.{trialAt, runIn, pointIn}
 use Rattle.promises.specs.Marks.{marked, numberAt, Counted, Shown}
 use Rattle.promises.specs.Bound.{failing, failsAt, active}
@@ -35,6 +41,7 @@ use Rattle.promises.specs.Causes.{Cause, EndsBy, lastIn, beforeLast}
 use Rattle.promises.specs.Places.{RefusedFor, ShortAt}
 use Rattle.promises.specs.Convergence.{SolveConverges}
 use Rattle.promises.specs.Wilds.{WildAt}
+use Rattle.promises.specs.Sold.{Offered, June, Why}
 use Rattle.promises.specs.Grounding.{Carries, Entered, GnBefore, SixShown}
 
 -- ---- demand 1: every sheet gets exactly one answer
@@ -124,6 +131,34 @@ SolveLastState = (s : List ℕ) (l : Layout) → runIn s l .state ≡ pointIn s 
 abbrev pub SolveInRange : Type 0
 SolveInRange = (s : List ℕ) (l : Layout) (i : ℕ) → T (le constant.quarter (pointIn s l i .damping .factor)) × T (le (pointIn s l i .damping .factor) constant.one)
 
+-- ---- demand 3: which repair
+
+-- when a factorization fails at a node, the lowest-numbered Active PRV or PSV touching it is freed, and nothing else changes
+abbrev pub TrialFrees : Type 0
+TrialFrees = (s : List ℕ) (l : Layout) (d : Damping) (t : State) (j : ℕ) → Frees s l t j → trialOf s l d t ≡ outcome (Freed (record { 0 = j })) (freedIn t j)
+
+-- if none touches it, the node is grounded, and nothing else changes
+abbrev pub TrialGrounds : Type 0
+TrialGrounds = (s : List ℕ) (l : Layout) (d : Damping) (t : State) (i : ℕ) → Grounds s l t i → trialOf s l d t ≡ outcome (Grounded (record { 0 = i })) (groundedIn t i)
+
+-- if it is grounded already, the solve is refused naming it, and nothing changes
+abbrev pub TrialRefuses : Type 0
+TrialRefuses = (s : List ℕ) (l : Layout) (d : Damping) (t : State) (i : ℕ) → Refuses s l t i → trialOf s l d t ≡ outcome (Singular (record { 0 = i })) t
+
+-- no other valve is freed, no other node grounded or refused
+abbrev pub FreedOnly : Type 0
+FreedOnly = (s : List ℕ) (l : Layout) (d : Damping) (t : State) (j : LinkIndex) → trialOf s l d t .entry ≡ Freed j → Frees s l t (j .0)
+
+abbrev pub GroundedOnly : Type 0
+GroundedOnly = (s : List ℕ) (l : Layout) (d : Damping) (t : State) (v : NodeIndex) → trialOf s l d t .entry ≡ Grounded v → Grounds s l t (v .0)
+
+abbrev pub RefusedOnly : Type 0
+RefusedOnly = (s : List ℕ) (l : Layout) (d : Damping) (t : State) (v : NodeIndex) → trialOf s l d t .entry ≡ Singular v → Refuses s l t (v .0)
+
+-- a failed trial changes statuses or marks alone
+abbrev pub TrialSpares : Type 0
+TrialSpares = (s : List ℕ) (l : Layout) (d : Damping) (t : State) → fails (trialOf s l d t .entry) ≡ true → Spared t (trialOf s l d t .state)
+
 -- ---- demand 3: every repair stands in the record, and the record shows no other
 
 -- freed and grounded count its VF and GN, trials its entries
@@ -162,6 +197,10 @@ abbrev pub UnmarkedIsBare : Type 0
 UnmarkedIsBare =
     (s : List ℕ) (b : Lent) → count (solveOf s b .answer .trials) (marked 86 70 (solveOf s b .lent .entries)) ≡ 0 → count (solveOf s b .answer .trials) (marked 71 78 (solveOf s b .lent .entries)) ≡ 0
     → solveOf s b ≡ solveWith noRepair s b
+
+-- and one whose record is found to show no repair
+abbrev pub NoneShownIsBare : Type 0
+NoneShownIsBare = (s : List ℕ) (b : Lent) → repairShown (solveOf s b .lent .entries) (solveOf s b .answer .trials) ≡ Nothing → solveOf s b ≡ solveWith noRepair s b
 
 -- ---- demand 3: repairs end
 
@@ -209,3 +248,24 @@ SixWasGrounded = (s : List ℕ) (b : Lent) → solveOf s b .answer .number ≡ 6
 -- and both its GN and its SG stand in the record
 abbrev pub SixIsShown : Type 0
 SixIsShown = (s : List ℕ) (b : Lent) → solveOf s b .answer .number ≡ 6 → SixShown (solveOf s b)
+
+-- ---- the verdict: may this hour be sold
+
+-- the sale's answer and buffers are the solve's
+abbrev pub SellsTheSolve : Type 0
+SellsTheSolve = (s : List ℕ) (limits : Limits) (b : Lent) → (saleOf s limits b .answer ≡ solveOf s b .answer) × (saleOf s limits b .lent ≡ solveOf s b .lent)
+
+-- sold means sold
+abbrev pub SoldMeansSold : Type 0
+SoldMeansSold = (s : List ℕ) (limits : Limits) (b : Lent) → saleOf s limits b .verdict .number ≡ 0 → (l : Layout) × Offered s l limits b (saleOf s limits b)
+
+-- no solve in which a regulator was freed, a node was grounded or a head hangs on nothing is sold
+abbrev pub JuneNeverSold : Type 0
+JuneNeverSold = (s : List ℕ) (limits : Limits) (b : Lent) (l : Layout) → readOf s ≡ Good l → June s l (saleOf s limits b) → saleOf s limits b .verdict .number ≡ 0 → ⊥
+
+-- each verdict has its cause, at its place, and no line before it holds; it is 8 at most
+abbrev pub UnsoldWhy : Type 0
+UnsoldWhy = (s : List ℕ) (limits : Limits) (b : Lent) → Why s limits b (saleOf s limits b) (saleOf s limits b .verdict .number) (saleOf s limits b .verdict .place)
+
+abbrev pub AtMostEight : Type 0
+AtMostEight = (s : List ℕ) (limits : Limits) (b : Lent) → saleOf s limits b .verdict .number ≤ 8
