@@ -1,5 +1,6 @@
 """Which crates know where a field stands: records by offset, nodes and links by (sheet, layout, index), and those
-that do the reading itself. No other crate's code or definition names an offset or adds a number to one."""
+that do the reading itself. No other crate's code or definition names an offset or adds a number to one, but the
+definition of what stands at the place that a refusal names."""
 import glob
 import os
 import re
@@ -10,6 +11,7 @@ ROOT = os.path.dirname(os.path.dirname(os.path.abspath(__file__)))
 # patterns knows no sheet: it makes numbers of bytes, also for the programs that replay vectors
 KNOW = {"patterns", "layout", "records", "nodes", "links"}
 READ = {"fields", "ends", "sheet", "accepted", "stream", "long_sheets"}
+TELL = {os.path.join("crates", "promises", "specs", "Places.antt")}
 
 OFFSETS = re.compile(
     r"\b(node_place|link_place|pair_at|node_at|link_at|nodePlace|linkPlace|nodeOffset|linkOffset|pairAt|byteAt|nodeAt|linkAt)\b"
@@ -32,7 +34,7 @@ class Offsets(unittest.TestCase):
         files += glob.glob(os.path.join(ROOT, "crates", "*", "specs", "**", "*.antt"), recursive=True)
         self.assertGreater(len(files), 100)
         found = {os.path.relpath(path, ROOT): named(path) for path in files if crate_of(path) not in KNOW | READ}
-        self.assertEqual({path: names for path, names in found.items() if names}, {})
+        self.assertEqual({path: names for path, names in found.items() if names and path not in TELL}, {})
 
     def test_it_would_see_one(self):
         for line in ("sheet[at + 2]", "pair_at(sheet, 5)", "byteAt s (linkPlace l j + 2)", "fromBytes s 18"):

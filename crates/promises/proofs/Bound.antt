@@ -43,6 +43,7 @@ use Rattle.promises.specs.Count.{count}
 use Rattle.promises.specs.Repairs.{stopNode, stopOf, Frees, Grounds, freedIn, groundedIn, fails}
 use Rattle.promises.specs.Trials.{Point, point, trialAt, runAt, dampingAfter, next, afterTrials, startPoint, runIn, pointIn}
 use Rattle.promises.specs.Bound.{failing, isActive, active, isLoose, loose}
+use Rattle.promises.specs.Statements.{SolveRepairsEnd}
 use Rattle.promises.proofs.Never.{other, never}
 use Rattle.promises.proofs.Repairs.{regulates, ways, step-holds}
 use Rattle.promises.proofs.Trials.{unmoved, shifted, on-damping}
@@ -257,7 +258,6 @@ start-room s l e =
     }
 
 -- Of the solve of any sheet, wherever a run of failed trials begins.
-pub solve-repairs-end : (s : List ℕ) (l : Layout) → readOf s ≡ Good l → (i : ℕ)
-    → failing (drop i (runIn s l .entries)) ≤ active s l (pointIn s l i .state) + serving s l (l .nodes) + 1
+pub solve-repairs-end : SolveRepairsEnd
 unfolding runIn pointIn startPoint
 solve-repairs-end s l e i = repairs-end s l (network-of s l e .unknowns) i (trialsOf s) (startPoint s l) (start-room s l e)

@@ -29,11 +29,12 @@ use Rattle.entries.specs.declared.Ended.the-variants.{Balanced, Failed, Strayed
 use Rattle.entries.specs.declared.Tally.{Tally}
 use Rattle.answers.specs.Answers.{Lent, failedOf, refusedOf}
 use Rattle.conclusion.specs.Conclusion.{emptied, unsolved, delivered, told}
-use Rattle.solver.specs.Solve.{trialsOf, solveOf}
+use Rattle.solver.specs.Solve.{trialsOf}
 use Rattle.solver.proofs.Laws.{network-of}
 use Rattle.promises.specs.Trials.{startPoint, runIn, pointIn}
 use Rattle.promises.specs.Solves.{Runs}
 use Rattle.promises.specs.Buffers.{Buffers, Over, Delivered}
+use Rattle.promises.specs.Statements.{SolveBuffers, SolveDelivers}
 use Rattle.promises.proofs.Trials.{solve-last-state}
 use Rattle.promises.proofs.Bound.{room-after, start-room}
 use Rattle.promises.proofs.Solves.{comes, ways, tells}
@@ -156,8 +157,8 @@ module _ (x : Lent) (tally : Tally) (bytes : List ℕ) (kept : (i : ℕ) → 4 *
 
 -- Demand 1: numbers are 0 to 8. 1 to 5 change nothing lent and report zero counts; 6 to 8 change only the record and the scratch; all but 0 report totals of +0.0.
 -- Scratch is +0.0 after any solve that ran a trial; scratch past 4,096 and record bytes past the entries stay. For every sheet and all buffers.
-pub buffers : (s : List ℕ) (x : Lent) → Buffers x (solveOf s x)
-buffers s x =
+pub solve-buffers : SolveBuffers
+solve-buffers s x =
     ways repairOf s x (Buffers x)
     (λ r e. refused-buffers (numberOf r) (placeOf r) x (number-small r)) (λ l place e q. refused-buffers 5 place x (omega arith))
     (λ l w.
@@ -194,7 +195,7 @@ run-room s l x w =
     (room-after s l (network-of s l (w .read) .unknowns) (length (runIn s l .entries)) (startPoint s l) (start-room s l (w .read)))
 
 -- On 0, heads and demands hold one entry a node, flows and statuses one a link, those of the state that the run left; later entries are untouched.
-pub delivers : (s : List ℕ) (x : Lent) (l : Layout) → Runs s x l → solveOf s x .answer .number ≡ 0 → Delivered s l (runIn s l .state) x (solveOf s x)
-delivers s x l w =
+pub solve-delivers : SolveDelivers
+solve-delivers s x l w =
     rw (comes repairOf s x l w, tells s l x)
     (balanced-delivers s l (trialsOf s) x (runIn s l .state) (tallied none (runIn s l .entries)) (written 0 (runIn s l .entries) (x .entries)) (runIn s l .ended) (run-room s l x w))

@@ -43,12 +43,13 @@ use Rattle.answers.specs.Answers.{Lent, Solved, failedOf, refusedOf}
 use Rattle.conclusion.specs.Conclusion.{unsolved, delivered, told}
 use Rattle.solver.specs.Solve.{trialsOf, afterShort, afterRead, solveWith, solveOf}
 use Rattle.promises.specs.Repairs.{Refuses}
-use Rattle.promises.specs.Trials.{Point, point, trialAt, runAt, startPoint, runIn}
+use Rattle.promises.specs.Trials.{Point, point, trialAt, runAt, startPoint, runIn, pointIn}
 use Rattle.promises.specs.Solves.{shortIn, Runs}
 use Rattle.promises.specs.Causes.{endNumber, endPlace, Cause, sheet, short, ended, endBy, EndsBy, lastIn, beforeLast}
+use Rattle.promises.specs.Statements.{ToldOfCause, CauseOfTold, RefusedBySheet, SheetOnly, SolveEndsBy, RunsATrial, ZeroConverged, SixSingular, SevenWild, EightLimit}
 use Rattle.promises.proofs.Never.{other}
 use Rattle.promises.proofs.Repairs.{refused-only}
-use Rattle.promises.proofs.Trials.{solve-each-entry}
+use Rattle.promises.proofs.Trials.{solve-each-entry, solve-each-state, solve-last-state}
 use Rattle.promises.proofs.Solves.{comes, ways, tells}
 use Rattle.promises.proofs.Counts.{trials-are}
 
@@ -88,25 +89,25 @@ module _ (s : List ℕ) (x : Lent) where
         told-place s l (trialsOf s) x (r .state) (tallied none (r .entries)) (written 0 (r .entries) (x .entries)) (r .ended),
       )
 
-  -- Demand 1: a number and a place are told where they have their cause,
-  pub told-of-cause : (number place : ℕ) → Cause s x number place → (solveOf s x .answer .number ≡ number) × (solveOf s x .answer .place ≡ place)
-  told-of-cause number place (sheet r e) = refused-number (numberOf r) (placeOf r) (by-sheet r e)
-  told-of-cause number place (short l p e q) = refused-number 5 p (by-buffer l p e q)
-  told-of-cause number place (ended l w) = by-end l w
+-- Demand 1: a number and a place are told where they have their cause,
+pub told-of-cause : ToldOfCause
+told-of-cause s x number place (sheet r e) = refused-number s x (numberOf r) (placeOf r) (by-sheet s x r e)
+told-of-cause s x number place (short l p e q) = refused-number s x 5 p (by-buffer s x l p e q)
+told-of-cause s x number place (ended l w) = by-end s x l w
 
-  -- and in no other case.
-  pub cause-of-told : Cause s x (solveOf s x .answer .number) (solveOf s x .answer .place)
-  unfolding refusedOf failedOf
-  cause-of-told =
-      ways repairOf s x (λ o. Cause s x (o .answer .number) (o .answer .place)) sheet short
-      (λ l w.
-      let r = runIn s l in
-      rw (
-        tells s l x,
-        told-number s l (trialsOf s) x (r .state) (tallied none (r .entries)) (written 0 (r .entries) (x .entries)) (r .ended),
-        told-place s l (trialsOf s) x (r .state) (tallied none (r .entries)) (written 0 (r .entries) (x .entries)) (r .ended),
-      )
-      (ended l w))
+-- and in no other case.
+pub cause-of-told : CauseOfTold
+unfolding refusedOf failedOf
+cause-of-told s x =
+    ways repairOf s x (λ o. Cause s x (o .answer .number) (o .answer .place)) sheet short
+    (λ l w.
+    let r = runIn s l in
+    rw (
+      tells s l x,
+      told-number s l (trialsOf s) x (r .state) (tallied none (r .entries)) (written 0 (r .entries) (x .entries)) (r .ended),
+      told-place s l (trialsOf s) x (r .state) (tallied none (r .entries)) (written 0 (r .entries) (x .entries)) (r .ended),
+    )
+    (ended l w))
 
 -- ---- 1 to 4
 
@@ -130,7 +131,7 @@ most-four LinkCount = omega arith
 most-four (Field p) = omega arith
 most-four (Ends p) = omega arith
 
-end-past : (z : Ended) → 1 ≤ endNumber z → endNumber z ≤ 5 → ⊥
+pub end-past : (z : Ended) → 1 ≤ endNumber z → endNumber z ≤ 5 → ⊥
 unfolding endNumber
 end-past Balanced a b = omega arith
 end-past (Failed v) a b = omega arith
@@ -157,24 +158,24 @@ same-end m Limit Balanced e f = absurd (let y : ⊥ = omega arith in y)
 same-end m Limit (Failed w) e f = absurd (let y : ⊥ = omega arith in y)
 same-end m Limit (Strayed q) e f = absurd (let y : ⊥ = omega arith in y)
 
+-- A sheet that has a cause of 1 to 4 is refused with that number,
+pub refused-by-sheet : RefusedBySheet
+refused-by-sheet s x h = go (readOf s) refl
+  where
+    go : (r : Reading) → readOf s ≡ r → solveOf s x .answer .number ≡ causeOf baseBounds s
+    go (Refused r) e = told-of-cause s x (numberOf r) (placeOf r) (sheet r e) .0 ∙ sym (ap numberIn e) ∙ sheet-number s
+    go (Good l) e = let p : 0 ≡ causeOf baseBounds s = sym (ap numberIn e) ∙ sheet-number s in absurd (let y : ⊥ = omega arith in y)
+
+-- and these numbers are given in no other case.
+pub sheet-only : SheetOnly
+sheet-only s x a b = go (solveOf s x .answer .number) (solveOf s x .answer .place) (cause-of-told s x) a b
+  where
+    go : (n p : ℕ) → Cause s x n p → 1 ≤ n → n ≤ 4 → causeOf baseBounds s ≡ n
+    go n p (sheet r e) a b = sym (sheet-number s) ∙ ap numberIn e
+    go n p (short l q e f) a b = absurd (let y : ⊥ = omega arith in y)
+    go n p (ended l w) a b = absurd (end-past (runIn s l .ended) a (omega arith))
+
 module _ (s : List ℕ) (x : Lent) where
-  -- A sheet that has a cause of 1 to 4 is refused with that number,
-  pub refused-by-sheet : 1 ≤ causeOf baseBounds s → solveOf s x .answer .number ≡ causeOf baseBounds s
-  refused-by-sheet h = go (readOf s) refl
-    where
-      go : (r : Reading) → readOf s ≡ r → solveOf s x .answer .number ≡ causeOf baseBounds s
-      go (Refused r) e = told-of-cause s x (numberOf r) (placeOf r) (sheet r e) .0 ∙ sym (ap numberIn e) ∙ sheet-number s
-      go (Good l) e = let p : 0 ≡ causeOf baseBounds s = sym (ap numberIn e) ∙ sheet-number s in absurd (let y : ⊥ = omega arith in y)
-
-  -- and these numbers are given in no other case.
-  pub sheet-only : 1 ≤ solveOf s x .answer .number → solveOf s x .answer .number ≤ 4 → causeOf baseBounds s ≡ solveOf s x .answer .number
-  sheet-only a b = go (solveOf s x .answer .number) (solveOf s x .answer .place) (cause-of-told s x) a b
-    where
-      go : (n p : ℕ) → Cause s x n p → 1 ≤ n → n ≤ 4 → causeOf baseBounds s ≡ n
-      go n p (sheet r e) a b = sym (sheet-number s) ∙ ap numberIn e
-      go n p (short l q e f) a b = absurd (let y : ⊥ = omega arith in y)
-      go n p (ended l w) a b = absurd (end-past (runIn s l .ended) a (omega arith))
-
   -- ---- 5: the lowest buffer that is too short, for an accepted sheet
   pub short-only : solveOf s x .answer .number ≡ 5 → (l : Layout) × ((readOf s ≡ Good l) × (shortIn s l x ≡ At (solveOf s x .answer .place)))
   short-only a = go (solveOf s x .answer .number) (solveOf s x .answer .place) (cause-of-told s x) a
@@ -269,7 +270,7 @@ module _ (s : List ℕ) (l : Layout) where
           }
 
 -- Of the solve of any sheet: the number and the place, which are those of its end, are told by its last entry.
-pub solve-ends-by : (s : List ℕ) (l : Layout) → EndsBy (trialsOf s) (runIn s l)
+pub solve-ends-by : SolveEndsBy
 unfolding runIn
 solve-ends-by s l = ends-by s l (trialsOf s) (startPoint s l)
 
@@ -286,7 +287,7 @@ unfolding readOf optionsOf
 some-trials s l h = options-some baseBounds s (accepts baseBounds s l h .options)
 
 -- A solve that is not refused for its sheet or its buffers runs a trial.
-pub runs-a-trial : (s : List ℕ) (x : Lent) (l : Layout) → Runs s x l → 1 ≤ solveOf s x .answer .trials
+pub runs-a-trial : RunsATrial
 runs-a-trial s x l w = omega (arith, trials-are s x l w, solve-ends-by s l .some (some-trials s l (w .read)))
 
 -- ---- what the last trial came to
@@ -323,9 +324,18 @@ module _ (s : List ℕ) (x : Lent) (l : Layout) (w : Runs s x l) where
   unfolding lastIn
   last-tells z e = sym (solve-ends-by s l .last (some-trials s l (w .read))) ∙ e
 
-  last-is : lastIn s l ≡ trialAt s l (beforeLast s l) .entry
+  -- The last entry is that of a trial of the state before it,
+  pub last-is : lastIn s l ≡ trialAt s l (beforeLast s l) .entry
   unfolding lastIn beforeLast
   last-is = solve-each-entry s l (length (runIn s l .entries) - 1) (omega (arith, solve-ends-by s l .some (some-trials s l (w .read))))
+
+  -- and the state that the run leaves is the one that this trial leaves.
+  pub last-leaves : runIn s l .state ≡ trialAt s l (beforeLast s l) .state
+  unfolding beforeLast
+  last-leaves =
+      let n = length (runIn s l .entries) in
+      let e : n ≡ suc (n - 1) = omega (arith, solve-ends-by s l .some (some-trials s l (w .read))) in
+      solve-last-state s l ∙ ap (λ (i : ℕ). pointIn s l i .state) e ∙ solve-each-state s l (n - 1)
 
   at-converged : (z : Ended) → runIn s l .ended ≡ z → endNumber z ≡ 0 → (flip : Flip) × (lastIn s l ≡ Converged flip)
   unfolding endNumber
@@ -366,19 +376,18 @@ of-run s x P c low f a = go (solveOf s x .answer .number) (solveOf s x .answer .
     go n p (short l q e g) a = absurd (let y : ⊥ = ⊎-elim (λ (q : c ≡ 0). omega arith) (λ (q : 6 ≤ c). omega arith) low in y)
     go n p (ended l w) a = (l, (w, f l w a))
 
-module _ (s : List ℕ) (x : Lent) where
-  -- 0: the last trial converged.
-  pub zero-converged : solveOf s x .answer .number ≡ 0 → (l : Layout) × (Runs s x l × ((flip : Flip) × (lastIn s l ≡ Converged flip)))
-  zero-converged = of-run s x (λ l p. (flip : Flip) × (lastIn s l ≡ Converged flip)) 0 (inl refl) (λ l w a. at-converged s x l w (runIn s l .ended) refl a)
+-- 0: the last trial converged.
+pub zero-converged : ZeroConverged
+zero-converged s x = of-run s x (λ l p. (flip : Flip) × (lastIn s l ≡ Converged flip)) 0 (inl refl) (λ l w a. at-converged s x l w (runIn s l .ended) refl a)
 
-  -- 6: the last trial's factorization stopped at the place, which no Active PRV or PSV touches and which is grounded already.
-  pub six-singular : solveOf s x .answer .number ≡ 6 → (l : Layout) × (Runs s x l × Refuses s l (beforeLast s l .state) (solveOf s x .answer .place))
-  six-singular = of-run s x (λ l p. Refuses s l (beforeLast s l .state) p) 6 (inr (omega arith)) (λ l w a. at-failed s x l w (runIn s l .ended) refl a)
+-- 6: the last trial's factorization stopped at the place, which no Active PRV or PSV touches and which is grounded already.
+pub six-singular : SixSingular
+six-singular s x = of-run s x (λ l p. Refuses s l (beforeLast s l .state) p) 6 (inr (omega arith)) (λ l w a. at-failed s x l w (runIn s l .ended) refl a)
 
-  -- 7: the last trial stepped to a head or flow at the place that is NaN, infinite or at least 2^64 in magnitude.
-  pub seven-wild : solveOf s x .answer .number ≡ 7 → (l : Layout) × (Runs s x l × (lastIn s l ≡ Wild (solveOf s x .answer .place)))
-  seven-wild = of-run s x (λ l p. lastIn s l ≡ Wild p) 7 (inr (omega arith)) (λ l w a. at-strayed s x l w (runIn s l .ended) refl a)
+-- 7: the last trial stepped to a head or flow at the place that is NaN, infinite or at least 2^64 in magnitude.
+pub seven-wild : SevenWild
+seven-wild s x = of-run s x (λ l p. lastIn s l ≡ Wild p) 7 (inr (omega arith)) (λ l w a. at-strayed s x l w (runIn s l .ended) refl a)
 
-  -- 8: every allowed trial was used up.
-  pub eight-limit : solveOf s x .answer .number ≡ 8 → (l : Layout) × (Runs s x l × (length (runIn s l .entries) ≡ trialsOf s))
-  eight-limit = of-run s x (λ l p. length (runIn s l .entries) ≡ trialsOf s) 8 (inr (omega arith)) (λ l w a. at-limit s x l w (runIn s l .ended) refl a)
+-- 8: every allowed trial was used up.
+pub eight-limit : EightLimit
+eight-limit s x = of-run s x (λ l p. length (runIn s l .entries) ≡ trialsOf s) 8 (inr (omega arith)) (λ l w a. at-limit s x l w (runIn s l .ended) refl a)

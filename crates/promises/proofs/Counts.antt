@@ -16,10 +16,9 @@ use Rattle.found.specs.declared.Found.the-variants.{At, Nothing}
 use Rattle.layout.specs.declared.places.Layout.{Layout}
 use Rattle.wild.specs.Wild.{wildPlace}
 use Rattle.wild.proofs.Wilds.{wild-below}
-use Rattle.update.specs.Update.{basis, updateOf}
 use Rattle.update.specs.declared.Stats.{Stats}
 use Rattle.state.specs.Network.{Network}
-use Rattle.state.specs.State.{State, solvedHeads}
+use Rattle.state.specs.State.{State}
 use Rattle.links.specs.declared.LinkIndex.{LinkIndex}
 use Rattle.nodes.specs.declared.NodeIndex.{NodeIndex}
 use Rattle.damping.specs.declared.steps.Damping.{Damping}
@@ -46,6 +45,7 @@ use Rattle.promises.specs.Count.{count}
 use Rattle.promises.specs.Trials.{startPoint, runIn, pointIn}
 use Rattle.promises.specs.Solves.{Runs}
 use Rattle.promises.specs.Marks.{marked, Counted, Shown}
+use Rattle.promises.specs.Statements.{SolveCounts, TrialsAre, EntryShown, NumberShown, VfFreed, GnGrounded}
 use Rattle.promises.proofs.Never.{never}
 use Rattle.promises.proofs.Repairs as repairs
 use Rattle.promises.proofs.Trials.{solve-each-entry}
@@ -147,7 +147,7 @@ written-shows (e ∷ es) i r h (suc j) x =
 
 -- ---- counting
 
-unfoldable has : ℕ → ℕ → Entry → Bool
+unfoldable pub has : ℕ → ℕ → Entry → Bool
 has a b e = eqb (markOf e .0) a && eqb (markOf e .1) b
 
 unfoldable having : ℕ → ℕ → List Entry → ℕ
@@ -235,29 +235,28 @@ module _ (s : List ℕ) (x : Lent) where
         grounded = in-solve l w (λ trials freed grounded bytes. grounded ≡ count trials (marked 71 78 bytes)) (rw (n, g) (sym (count-marks 71 78 es (x .entries) (room l w))));
       }
 
-  -- Demand 3: freed and grounded count the VF and GN among the entries of the record. For every sheet and all buffers.
-  pub counts : Counted (solveOf s x)
-  counts =
-      ways repairOf s x Counted
-      (λ r e. refused-counts _ _ x) (λ l place e q. refused-counts 5 place x)
-      (λ l w. rw (comes repairOf s x l w) at (run-counts l w))
+-- Demand 3: freed and grounded count the VF and GN among the entries of the record. For every sheet and all buffers.
+pub solve-counts : SolveCounts
+solve-counts s x =
+    ways repairOf s x Counted
+    (λ r e. refused-counts _ _ x) (λ l place e q. refused-counts 5 place x)
+    (λ l w. rw (comes repairOf s x l w) at (run-counts s x l w))
 
-  module _ (l : Layout) (w : Runs s x l) where
-    -- The trial count is the number of entries.
-    pub trials-are : solveOf s x .answer .trials ≡ length (runIn s l .entries)
-    trials-are = in-solve l w (λ trials freed grounded bytes. trials ≡ length (runIn s l .entries)) (omega (arith, tallied-trials none (runIn s l .entries)))
+-- The trial count is the number of entries.
+pub trials-are : TrialsAre
+trials-are s x l w = in-solve s x l w (λ trials freed grounded bytes. trials ≡ length (runIn s l .entries)) (omega (arith, tallied-trials none (runIn s l .entries)))
 
-    -- Every trial's entry stands in the record, in its place.
-    pub shown : (i : ℕ) → i < length (runIn s l .entries) → Shown (solveOf s x .lent .entries) i (getD (runIn s l .entries) i noEntry)
-    shown i h =
-        let p : 0 + i ≡ i = omega arith in
-        in-solve l w (λ trials freed grounded bytes. Shown bytes i (getD (runIn s l .entries) i noEntry))
-        (rw p at (written-shows (runIn s l .entries) 0 (x .entries) (omega (arith, room l w)) i h))
+-- Every trial's entry stands in the record, in its place.
+pub entry-shown : EntryShown
+entry-shown s x l w i h =
+    let p : 0 + i ≡ i = omega arith in
+    in-solve s x l w (λ trials freed grounded bytes. Shown bytes i (getD (runIn s l .entries) i noEntry))
+    (rw p at (written-shows (runIn s l .entries) 0 (x .entries) (omega (arith, room s x l w)) i h))
 
 -- ---- the record shows no other repair
 
 module _ (bytes : List ℕ) (i : ℕ) (e : Entry) (w : Shown bytes i e) where
-  shows : (a b : ℕ) → marked a b bytes i ≡ has a b e
+  pub shows : (a b : ℕ) → marked a b bytes i ≡ has a b e
   unfolding marked has
   shows a b = rw (w .first, w .second)
 
@@ -279,13 +278,12 @@ gn (Wild p) h = never h
 gn (Stepped d flip) h = never h
 gn (Converged flip) h = never h
 
-module _ (s : List ℕ) (x : Lent) (l : Layout) (w : Runs s x l) (i : ℕ) (h : i < length (runIn s l .entries)) where
-  -- An entry marked VF is that of a trial that freed a valve, and one marked GN that of a trial that grounded a node: the record shows no other repair.
-  pub vf-freed : marked 86 70 (solveOf s x .lent .entries) i ≡ true → (j : LinkIndex) × (getD (runIn s l .entries) i noEntry ≡ Freed j)
-  vf-freed e = vf (getD (runIn s l .entries) i noEntry) (sym (shows (solveOf s x .lent .entries) i (getD (runIn s l .entries) i noEntry) (shown s x l w i h) 86 70) ∙ e)
+-- An entry marked VF is that of a trial that freed a valve, and one marked GN that of a trial that grounded a node: the record shows no other repair.
+pub vf-freed : VfFreed
+vf-freed s x l w i h e = vf (getD (runIn s l .entries) i noEntry) (sym (shows (solveOf s x .lent .entries) i (getD (runIn s l .entries) i noEntry) (entry-shown s x l w i h) 86 70) ∙ e)
 
-  pub gn-grounded : marked 71 78 (solveOf s x .lent .entries) i ≡ true → (v : NodeIndex) × (getD (runIn s l .entries) i noEntry ≡ Grounded v)
-  gn-grounded e = gn (getD (runIn s l .entries) i noEntry) (sym (shows (solveOf s x .lent .entries) i (getD (runIn s l .entries) i noEntry) (shown s x l w i h) 71 78) ∙ e)
+pub gn-grounded : GnGrounded
+gn-grounded s x l w i h e = gn (getD (runIn s l .entries) i noEntry) (sym (shows (solveOf s x .lent .entries) i (getD (runIn s l .entries) i noEntry) (entry-shown s x l w i h) 71 78) ∙ e)
 
 -- ---- the two bytes hold the number: it is below 1280
 
@@ -320,10 +318,9 @@ module _ (s : List ℕ) (l : Layout) (d : Damping) (t : State) (net : Network l 
       (λ v w. omega (arith, stop-node s l (net .unknowns) t v (w .stops) .0, net .nodes)) step-small
 
 -- An entry's number can be read from its two bytes, the lower first.
-pub number-shown : (s : List ℕ) (x : Lent) (l : Layout) → Runs s x l → (i : ℕ) → i < length (runIn s l .entries)
-    → getD (solveOf s x .lent .entries) (4 * i + 2) 0 + 256 * getD (solveOf s x .lent .entries) (4 * i + 3) 0 ≡ markOf (getD (runIn s l .entries) i noEntry) .2
+pub number-shown : NumberShown
 number-shown s x l w i h =
-    let y = shown s x l w i h in
+    let y = entry-shown s x l w i h in
     let c = network-of s l (w .read) in
     let p = pointIn s l i in
     let small = trial-small s l (p .damping) (p .state) c in

@@ -55,7 +55,7 @@ use Rattle.promises.specs.Trials.{runIn, pointIn}
 use Rattle.promises.specs.Solves.{Runs}
 use Rattle.promises.proofs.Never.{other, never}
 use Rattle.promises.proofs.Trials.{solve-each-entry}
-use Rattle.promises.proofs.Counts.{shown, number-shown}
+use Rattle.promises.proofs.Counts.{entry-shown, number-shown}
 use Rattle.promises.proofs.Repairs as repairs
 
 -- ---- a link's update leaves the others as they were
@@ -66,9 +66,9 @@ recoded-other c i j Stays n = refl
 recoded-other c i j (Becomes new cause) n = getD-set-other c i j (statusCode new) 0 n
 
 -- two states of the columns agree at link j
-record Same (w w₀ : Stepping) (j : ℕ) : Type 0 where
-  flow : getD (w .flows) j nan ≡ getD (w₀ .flows) j nan
-  code : getD (w .codes) j 0 ≡ getD (w₀ .codes) j 0
+pub record Same (w w₀ : Stepping) (j : ℕ) : Type 0 where
+  pub flow : getD (w .flows) j nan ≡ getD (w₀ .flows) j nan
+  pub code : getD (w .codes) j 0 ≡ getD (w₀ .codes) j 0
 
 module _ (s : List ℕ) (l : Layout) (b : Basis) where
   update-other : (i j : ℕ) (w : Stepping) → (j ≡ i → ⊥) → Same (linkUpdate s l b (linkOf s l i) i w) w j
@@ -83,7 +83,7 @@ module _ (s : List ℕ) (l : Layout) (b : Basis) where
       go false = record { flow = getD-set-other (w .flows) i j constant.zero nan n; code = refl }
 
   -- the first n links leave those from n on as they were
-  later : (n j : ℕ) (w : Stepping) → n ≤ j → Same (linkUpdates s l b n w) w j
+  pub later : (n j : ℕ) (w : Stepping) → n ≤ j → Same (linkUpdates s l b n w) w j
   unfolding linkUpdates
   later zero j w h = record { flow = refl; code = refl }
   later (suc n) j w h =
@@ -179,7 +179,7 @@ unfolding markOf
 number-of-steps e flip = ⊎-elim (λ (h : e ≡ Converged flip). ap (λ (y : Entry). markOf y .2) h) (λ w. ap (λ (y : Entry). markOf y .2) (w .1))
 
 low-byte : (s : List ℕ) (x : Lent) (l : Layout) (w : Runs s x l) (i : ℕ) → i < length (runIn s l .entries) → getD (solveOf s x .lent .entries) (4 * i + 2) 0 < 256
-low-byte s x l w i h = omega (arith, shown s x l w i h .low)
+low-byte s x l w i h = omega (arith, entry-shown s x l w i h .low)
 
 -- the low byte is the link's number plus 1, or 0; the high one is the cause
 bytes-tell : (flip : Flip) (n low high : ℕ) → n ≤ 128 → low + 256 * high ≡ flipNumber flip → low < 256 → ((i : LinkIndex) (c : Cause) → flip ≡ Link i c → i .0 < n) → Bytes flip low high

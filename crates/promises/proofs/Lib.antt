@@ -17,3 +17,8 @@ pub mod Quick
 pub mod Example
 pub mod Sold
 pub mod Flips
+pub mod Grounding
+pub mod Wilds
+pub mod Convergence
+pub mod Places
+pub mod Shown

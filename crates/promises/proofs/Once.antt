@@ -7,9 +7,7 @@ use native.Mathlib.Omega.{arith}
 use native.Mathlib.Nat.{zero-add, suc-add}
 use lib.ListN.{length, getD}
 use lib.Seq.{getD-set-same, getD-set-other}
-use Rattle.sheet.specs.Read.{readOf}
 use Rattle.layout.specs.declared.places.Layout.{Layout}
-use Rattle.sheet.specs.declared.reading.Reading.the-variants.{Good}
 use Rattle.nodes.specs.declared.NodeIndex.{NodeIndex}
 use Rattle.state.specs.State.{State}
 use Rattle.entries.specs.Entries.{noEntry}
@@ -20,13 +18,14 @@ use Rattle.promises.specs.Repairs.{Grounds}
 use Rattle.nodes.specs.Nodes.{serving}
 use Rattle.solver.proofs.Laws.{network-of}
 use Rattle.promises.specs.Trials.{Point, trialAt, runAt, afterTrials, startPoint, runIn}
+use Rattle.promises.specs.Statements.{SolveGroundedOnce}
 use Rattle.promises.proofs.Never.{never}
-use Rattle.promises.proofs.Repairs.{ways, grounds, grounded-only}
+use Rattle.promises.proofs.Repairs.{ways, trial-grounds, grounded-only}
 use Rattle.promises.proofs.Trials.{each-entry, each-state}
 use Rattle.promises.proofs.Bound.{stop-node, room-after, start-room}
 
 module _ (s : List ℕ) (l : Layout) where
-  -- No trial clears a mark,
+  -- No trial clears a mark.
   pub mark-stays : (p : Point) (v : ℕ) → getD (p .state .grounded) v false ≡ true → getD (trialAt s l p .state .grounded) v false ≡ true
   unfolding stepOf
   mark-stays p v h =
@@ -35,18 +34,19 @@ module _ (s : List ℕ) (l : Layout) where
       (λ u w. getD-set-other (p .state .grounded) u v true false (λ e. never (sym (w .yet) ∙ ap (λ (i : ℕ). getD (p .state .grounded) i false) (sym e) ∙ h)) ∙ h)
       (λ u w. h) (λ g y x. h)
 
-  marks-stay : (c i : ℕ) (p : Point) (v : ℕ) → getD (afterTrials s l i p .state .grounded) v false ≡ true → getD (afterTrials s l (c + i) p .state .grounded) v false ≡ true
+  pub marks-stay : (c i : ℕ) (p : Point) (v : ℕ) → getD (afterTrials s l i p .state .grounded) v false ≡ true → getD (afterTrials s l (c + i) p .state .grounded) v false ≡ true
   marks-stay zero i p v h = rw zero-add h
   marks-stay (suc c) i p v h =
       rw suc-add
       (ap (λ (t : State). getD (t .grounded) v false) (each-state s l (c + i) p)
       ∙ mark-stays (afterTrials s l (c + i) p) v (marks-stay c i p v h))
 
-  marked : l .unknowns ≡ serving s l (l .nodes) → (i : ℕ) (p : Point) → Room l (p .state) → (v : ℕ) → Grounds s l (afterTrials s l i p .state) v → getD (afterTrials s l (suc i) p .state .grounded) v false ≡ true
+  -- A trial that grounds a node sets its mark,
+  pub marked : l .unknowns ≡ serving s l (l .nodes) → (i : ℕ) (p : Point) → Room l (p .state) → (v : ℕ) → Grounds s l (afterTrials s l i p .state) v → getD (afterTrials s l (suc i) p .state .grounded) v false ≡ true
   marked right i p w v g =
       let at = afterTrials s l i p in
       ap (λ (t : State). getD (t .grounded) v false) (each-state s l i p)
-      ∙ ap (λ (o : Outcome). getD (o .state .grounded) v false) (grounds s l (at .damping) (at .state) v g)
+      ∙ ap (λ (o : Outcome). getD (o .state .grounded) v false) (trial-grounds s l (at .damping) (at .state) v g)
       ∙ getD-set-same (at .state .grounded) v true false (omega (arith, room-after s l right i p w .grounded, stop-node s l right (at .state) v (g .stops) .0))
 
   -- so no two entries of a run ground one node. For every number of nodes, links and trials.
@@ -62,7 +62,6 @@ module _ (s : List ℕ) (l : Layout) where
       never (sym (second .yet) ∙ ap (λ (c : ℕ). getD (afterTrials s l c p .state .grounded) (v .0) false) (sym e) ∙ on)
 
 -- Of the solve of any sheet.
-pub solve-grounded-once : (s : List ℕ) (l : Layout) → readOf s ≡ Good l → (v : NodeIndex) (i j : ℕ) → i < j → j < length (runIn s l .entries)
-    → getD (runIn s l .entries) i noEntry ≡ Grounded v → getD (runIn s l .entries) j noEntry ≡ Grounded v → ⊥
+pub solve-grounded-once : SolveGroundedOnce
 unfolding runIn startPoint
 solve-grounded-once s l e = grounded-once s l (network-of s l e .unknowns) (trialsOf s) (startPoint s l) (start-room s l e)

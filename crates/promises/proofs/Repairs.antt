@@ -20,7 +20,6 @@ use Rattle.linear.specs.declared.factorization.Factored.{Factored}
 use Rattle.linear.specs.declared.factorization.Factored.the-variants.{Done, Stopped}
 use Rattle.substitution.specs.Substitution.{solved}
 use Rattle.numbering.specs.Numbering.{nodeNumbered}
-use Rattle.nodes.specs.declared.NodeIndex.{NodeIndex}
 use Rattle.damping.specs.Damping.{convergedOf, relativeChange}
 use Rattle.links.specs.Links.{regulator}
 use Rattle.assembly.specs.Assembly.{System}
@@ -30,15 +29,15 @@ use Rattle.drawn.specs.Drawn.{draws, drawnOf}
 use Rattle.wild.specs.Wild.{wildPlace}
 use Rattle.update.specs.Update.{basis, updateOf}
 use Rattle.update.specs.declared.Stats.{Stats}
-use Rattle.repair.specs.Repair.{touches, regulatesAt, regulatorFrom, regulatorAt}
+use Rattle.repair.specs.Repair.{touches, regulatesAt, regulatorFrom, regulatorAt, ground, free, repairAt}
 use Rattle.entries.specs.declared.Entry.{Entry}
 use Rattle.causes.specs.declared.Flip.{Flip}
 use Rattle.entries.specs.declared.Entry.the-variants.{Freed, Grounded, Singular, Stepped, Converged}
 use Rattle.damping.specs.declared.steps.Damping.{Damping}
-use Rattle.links.specs.declared.LinkIndex.{LinkIndex}
 use Rattle.repair.proofs.Laws.{regulator-below, regulator-is, repair-frees, repair-grounds, repair-singular}
 use Rattle.trial.specs.Trial.{Outcome, outcome, repairOf, judged, stepEntry, stepOf, factored, systemOf, factorsOf, trialWith, trialOf}
 use Rattle.promises.specs.Repairs.{stopNode, stopOf, Lowest, NoneAt, Frees, Grounds, Refuses, freedIn, groundedIn, fails, Spared}
+use Rattle.promises.specs.Statements.{TrialFrees, TrialGrounds, TrialRefuses, FreedOnly, GroundedOnly, RefusedOnly, TrialSpares}
 use Rattle.promises.proofs.Never.{other, never}
 
 -- ---- the search finds the lowest-numbered
@@ -107,6 +106,16 @@ regulates s l codes node j e =
 
 -- ---- the ways of a trial
 
+ground-fails : (b : Bool) (codes : List ℕ) (marks : List Bool) (node : ℕ) → fails (ground b codes marks node .entry) ≡ true
+unfolding ground fails
+ground-fails true codes marks node = refl
+ground-fails false codes marks node = refl
+
+free-fails : (f : Found) (codes : List ℕ) (marks : List Bool) (node : ℕ) → fails (free f codes marks node .entry) ≡ true
+unfolding free fails
+free-fails (At j) codes marks node = refl
+free-fails Nothing codes marks node = ground-fails (getD marks node false) codes marks node
+
 judged-steps : (o : Options) (d : Damping) (m : Stats) (flip : Flip) → fails (judged o d m flip) ≡ false
 unfolding judged fails
 judged-steps o d m flip = go (convergedOf (relativeChange (m .moved) (m .total) (o .accuracy)) (o .accuracy) (m .changed) (m .largest) (o .unit) (o .change)) _
@@ -143,6 +152,11 @@ module _ (s : List ℕ) (l : Layout) (d : Damping) (t : State) where
   unfolding trialWith stopOf
   stops v e = let a = systemOf s l t in stopped v a (factorOf (l .unknowns) (a .matrix) .matrix) (factorOf (l .unknowns) (a .matrix) .answer) e
 
+  -- where the factorization stops, the trial fails
+  pub stop-fails : (v : ℕ) → stopOf s l t ≡ At v → fails (trialOf s l d t .entry) ≡ true
+  unfolding repairOf repairAt
+  stop-fails v e = rw (stops v e) (free-fails (regulatorAt s l (t .statuses) v) (t .statuses) (t .grounded) v)
+
   done : (a : System) (z : List Float) (f : Factored) → stopNode s l f ≡ Nothing → factored repairOf s l d t a z f ≡ stepOf s l d t (a .g) (a .y) (solved z (l .unknowns) (a .rhs))
   unfolding factored stopNode
   done a z (Stopped u) e = other (cc)
@@ -152,21 +166,22 @@ module _ (s : List ℕ) (l : Layout) (d : Damping) (t : State) where
   unfolding trialWith stopOf factorsOf
   steps e = let a = systemOf s l t in done a (factorOf (l .unknowns) (a .matrix) .matrix) (factorOf (l .unknowns) (a .matrix) .answer) e
 
-  -- Demand 3: when a factorization fails at a node, the lowest-numbered Active PRV or PSV touching it is freed, and nothing else changes.
-  pub frees : (j : ℕ) → Frees s l t j → trialOf s l d t ≡ outcome (Freed (record { 0 = j })) (freedIn t j)
-  unfolding repairOf
-  frees j w = stops (w .node) (w .stops) ∙ rw (← repair-frees s l (t .statuses) (w .node) (t .grounded) j (found s l (t .statuses) (w .node) j (w .lowest)))
+-- Demand 3: when a factorization fails at a node, the lowest-numbered Active PRV or PSV touching it is freed, and nothing else changes.
+pub trial-frees : TrialFrees
+unfolding repairOf
+trial-frees s l d t j w = stops s l d t (w .node) (w .stops) ∙ rw (← repair-frees s l (t .statuses) (w .node) (t .grounded) j (found s l (t .statuses) (w .node) j (w .lowest)))
 
-  -- If none touches it, the node is grounded, and nothing else changes.
-  pub grounds : (v : ℕ) → Grounds s l t v → trialOf s l d t ≡ outcome (Grounded (record { 0 = v })) (groundedIn t v)
-  unfolding repairOf
-  grounds v w = stops v (w .stops) ∙ rw (← repair-grounds s l (t .statuses) v (t .grounded) (found-none s l (t .statuses) v (w .none)) (w .yet))
+-- If none touches it, the node is grounded, and nothing else changes.
+pub trial-grounds : TrialGrounds
+unfolding repairOf
+trial-grounds s l d t v w = stops s l d t v (w .stops) ∙ rw (← repair-grounds s l (t .statuses) v (t .grounded) (found-none s l (t .statuses) v (w .none)) (w .yet))
 
-  -- If it is grounded already, the solve is refused naming it, and nothing changes.
-  pub refuses : (v : ℕ) → Refuses s l t v → trialOf s l d t ≡ outcome (Singular (record { 0 = v })) t
-  unfolding repairOf
-  refuses v w = stops v (w .stops) ∙ rw (← repair-singular s l (t .statuses) v (t .grounded) (found-none s l (t .statuses) v (w .none)) (w .already))
+-- If it is grounded already, the solve is refused naming it, and nothing changes.
+pub trial-refuses : TrialRefuses
+unfolding repairOf
+trial-refuses s l d t v w = stops s l d t v (w .stops) ∙ rw (← repair-singular s l (t .statuses) v (t .grounded) (found-none s l (t .statuses) v (w .none)) (w .already))
 
+module _ (s : List ℕ) (l : Layout) (d : Damping) (t : State) where
   -- whatever holds of each of the four ways holds of a trial: three repairs, and the step by the state's own system
   pub each-way : (P : Outcome → Type 0)
       → ((j : ℕ) → Frees s l t j → P (outcome (Freed (record { 0 = j })) (freedIn t j)))
@@ -177,16 +192,16 @@ module _ (s : List ℕ) (l : Layout) (d : Damping) (t : State) where
   each-way P free ground refuse step = go (stopOf s l t) refl
     where
       marked : (v : ℕ) → stopOf s l t ≡ At v → regulatorAt s l (t .statuses) v ≡ Nothing → (b : Bool) → getD (t .grounded) v false ≡ b → P (trialOf s l d t)
-      marked v e r true g = let w : Refuses s l t v = record { stops = e; none = none-at s l (t .statuses) v r; already = g } in rw (refuses v w) (refuse v w)
-      marked v e r false g = let w : Grounds s l t v = record { stops = e; none = none-at s l (t .statuses) v r; yet = g } in rw (grounds v w) (ground v w)
+      marked v e r true g = let w : Refuses s l t v = record { stops = e; none = none-at s l (t .statuses) v r; already = g } in rw (trial-refuses s l d t v w) (refuse v w)
+      marked v e r false g = let w : Grounds s l t v = record { stops = e; none = none-at s l (t .statuses) v r; yet = g } in rw (trial-grounds s l d t v w) (ground v w)
 
       freed : (v : ℕ) → stopOf s l t ≡ At v → (f : Found) → regulatorAt s l (t .statuses) v ≡ f → P (trialOf s l d t)
-      freed v e (At j) r = let w : Frees s l t j = record { node = v; stops = e; lowest = lowest s l (t .statuses) v j r } in rw (frees j w) (free j w)
+      freed v e (At j) r = let w : Frees s l t j = record { node = v; stops = e; lowest = lowest s l (t .statuses) v j r } in rw (trial-frees s l d t j w) (free j w)
       freed v e Nothing r = marked v e r (getD (t .grounded) v false) refl
 
       go : (f : Found) → stopOf s l t ≡ f → P (trialOf s l d t)
       go (At v) e = freed v e (regulatorAt s l (t .statuses) v) refl
-      go Nothing e = rw (steps e) step
+      go Nothing e = rw (steps s l d t e) step
 
   -- the same where it matters not by which system the step goes
   pub ways : (P : Outcome → Type 0)
@@ -197,32 +212,32 @@ module _ (s : List ℕ) (l : Layout) (d : Damping) (t : State) where
       → P (trialOf s l d t)
   ways P free ground refuse step = each-way P free ground refuse (step (systemOf s l t .g) (systemOf s l t .y) (solved (factorsOf s l t) (l .unknowns) (systemOf s l t .rhs)))
 
-  -- No other valve is ever freed, no other node grounded or refused.
-  pub freed-only : (j : LinkIndex) → trialOf s l d t .entry ≡ Freed j → Frees s l t (j .0)
-  unfolding fails
-  freed-only j =
-      ways (λ o. o .entry ≡ Freed j → Frees s l t (j .0))
-      (λ i w e. let p : i ≡ j .0 = cc in rw (← p) w)
-      (λ v w e. other (cc)) (λ v w e. other (cc)) (λ g y x e. never (sym (step-holds g y x) ∙ ap fails e))
+-- No other valve is ever freed, no other node grounded or refused.
+pub freed-only : FreedOnly
+unfolding fails
+freed-only s l d t j =
+    ways s l d t (λ o. o .entry ≡ Freed j → Frees s l t (j .0))
+    (λ i w e. let p : i ≡ j .0 = cc in rw (← p) w)
+    (λ v w e. other (cc)) (λ v w e. other (cc)) (λ g y x e. never (sym (step-holds s l d t g y x) ∙ ap fails e))
 
-  pub grounded-only : (v : NodeIndex) → trialOf s l d t .entry ≡ Grounded v → Grounds s l t (v .0)
-  unfolding fails
-  grounded-only v =
-      ways (λ o. o .entry ≡ Grounded v → Grounds s l t (v .0))
-      (λ j w e. other (cc)) (λ i w e. let p : i ≡ v .0 = cc in rw (← p) w)
-      (λ i w e. other (cc)) (λ g y x e. never (sym (step-holds g y x) ∙ ap fails e))
+pub grounded-only : GroundedOnly
+unfolding fails
+grounded-only s l d t v =
+    ways s l d t (λ o. o .entry ≡ Grounded v → Grounds s l t (v .0))
+    (λ j w e. other (cc)) (λ i w e. let p : i ≡ v .0 = cc in rw (← p) w)
+    (λ i w e. other (cc)) (λ g y x e. never (sym (step-holds s l d t g y x) ∙ ap fails e))
 
-  pub refused-only : (v : NodeIndex) → trialOf s l d t .entry ≡ Singular v → Refuses s l t (v .0)
-  unfolding fails
-  refused-only v =
-      ways (λ o. o .entry ≡ Singular v → Refuses s l t (v .0))
-      (λ j w e. other (cc)) (λ i w e. other (cc))
-      (λ i w e. let p : i ≡ v .0 = cc in rw (← p) w) (λ g y x e. never (sym (step-holds g y x) ∙ ap fails e))
+pub refused-only : RefusedOnly
+unfolding fails
+refused-only s l d t v =
+    ways s l d t (λ o. o .entry ≡ Singular v → Refuses s l t (v .0))
+    (λ j w e. other (cc)) (λ i w e. other (cc))
+    (λ i w e. let p : i ≡ v .0 = cc in rw (← p) w) (λ g y x e. never (sym (step-holds s l d t g y x) ∙ ap fails e))
 
-  -- A failed trial changes statuses or marks alone.
-  pub spares : fails (trialOf s l d t .entry) ≡ true → Spared t (trialOf s l d t .state)
-  unfolding fails
-  spares =
-      ways (λ o. fails (o .entry) ≡ true → Spared t (o .state))
-      (λ j w e. record { heads = refl; demands = refl; flows = refl }) (λ v w e. record { heads = refl; demands = refl; flows = refl })
-      (λ v w e. record { heads = refl; demands = refl; flows = refl }) (λ g y x e. never (sym (step-holds g y x) ∙ e))
+-- A failed trial changes statuses or marks alone.
+pub trial-spares : TrialSpares
+unfolding fails
+trial-spares s l d t =
+    ways s l d t (λ o. fails (o .entry) ≡ true → Spared t (o .state))
+    (λ j w e. record { heads = refl; demands = refl; flows = refl }) (λ v w e. record { heads = refl; demands = refl; flows = refl })
+    (λ v w e. record { heads = refl; demands = refl; flows = refl }) (λ g y x e. never (sym (step-holds s l d t g y x) ∙ e))

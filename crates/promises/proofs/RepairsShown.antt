@@ -15,8 +15,7 @@ use Rattle.entries.specs.declared.Entry.{Entry}
 use Rattle.entries.specs.declared.Entry.the-variants.{Freed, Grounded, Singular, Wild, Stepped, Converged}
 use Rattle.marks.specs.Marks.{markOf, written}
 use Rattle.answers.specs.Answers.{Lent}
-use Rattle.trial.specs.Trial.{noRepair}
-use Rattle.solver.specs.Solve.{solveOf, solveWith}
+use Rattle.solver.specs.Solve.{solveOf}
 use Rattle.repairs_shown.specs.Shown.{shows, repairShown}
 use Rattle.promises.specs.Count.{count}
 use Rattle.promises.specs.Marks.{marked, Shown}
@@ -24,8 +23,9 @@ use Rattle.promises.specs.Repairs.{mends}
 use Rattle.promises.specs.Solves.{Runs}
 use Rattle.promises.specs.Mended.{mended}
 use Rattle.promises.specs.Trials.{runIn}
+use Rattle.promises.specs.Statements.{NoneShownIsBare}
 use Rattle.promises.proofs.Never.{never}
-use Rattle.promises.proofs.Counts.{written-shows, shown, trials-are}
+use Rattle.promises.proofs.Counts.{written-shows, entry-shown, trials-are}
 use Rattle.promises.proofs.Unmended.{unmarked-is-bare}
 
 -- an entry's letters are VF or GN
@@ -59,7 +59,7 @@ written-mends es r long i h =
 module _ (s : List ℕ) (x : Lent) (l : Layout) (w : Runs s x l) where
   pub solve-mends : (i : ℕ) → i < length (runIn s l .entries) → shows (solveOf s x .lent .entries) i ≡ mended s l i
   unfolding mended
-  solve-mends i h = shows-mends (solveOf s x .lent .entries) i (getD (runIn s l .entries) i noEntry) (shown s x l w i h)
+  solve-mends i h = shows-mends (solveOf s x .lent .entries) i (getD (runIn s l .entries) i noEntry) (entry-shown s x l w i h)
 
   search-is : repairShown (solveOf s x .lent .entries) (solveOf s x .answer .trials) ≡ firstOf (shows (solveOf s x .lent .entries)) (length (runIn s l .entries))
   unfolding repairShown
@@ -101,7 +101,7 @@ none-marked bytes n e =
     (count-none n (marked 86 70 bytes) (λ i h. no-mark bytes i (first-none (shows bytes) n e i h) .0), count-none n (marked 71 78 bytes) (λ i h. no-mark bytes i (first-none (shows bytes) n e i h) .1))
 
 -- A solve whose record shows no repair is that of the solver that repairs nothing. For every sheet and all buffers.
-pub none-shown-is-bare : (s : List ℕ) (x : Lent) → repairShown (solveOf s x .lent .entries) (solveOf s x .answer .trials) ≡ Nothing → solveOf s x ≡ solveWith noRepair s x
+pub none-shown-is-bare : NoneShownIsBare
 none-shown-is-bare s x e =
     let c = none-marked (solveOf s x .lent .entries) (solveOf s x .answer .trials) e in
     unmarked-is-bare s x (c .0) (c .1)

@@ -53,6 +53,7 @@ use Rattle.promises.specs.Causes.{Cause, sheet, short, ended}
 use Rattle.promises.specs.Sold.{sumsOf, viewOf, pressureAt, Solves, Unrepaired, Joined, Balanced, Lawful, Holding, Drawing, Pressed, Offered, June, Why}
 use Rattle.promises.specs.Sold.June.{freed, grounded, hanging}
 use Rattle.promises.specs.Sold.Why.{sold as may, unsolved, repaired, undetermined, unbalanced, unsettled, unheld, undrawn, low}
+use Rattle.promises.specs.Statements.{SellsTheSolve, SoldMeansSold, JuneNeverSold, UnsoldWhy, AtMostEight}
 use Rattle.promises.proofs.Never.{other, never}
 use Rattle.promises.proofs.Counts.{trials-are}
 use Rattle.promises.proofs.RepairsShown.{none-shown, first-shown, none-shown-is-bare}
@@ -190,12 +191,12 @@ zero-runs s x z = go (solveOf s x .answer .number) (solveOf s x .answer .place) 
 abbrev linesOf : List ℕ → Layout → Limits → Solved → List Found
 linesOf s l limits o = rule s l limits (o .answer .trials) (o .lent .heads) (o .lent .demands) (o .lent .flows) (o .lent .statuses) (o .lent .entries)
 
-module _ (s : List ℕ) (limits : Limits) (x : Lent) where
-  -- the sale's answer and buffers are the solve's
-  pub sells-the-solve : (saleOf s limits x .answer ≡ solveOf s x .answer) × (saleOf s limits x .lent ≡ solveOf s x .lent)
-  unfolding saleOf
-  sells-the-solve = (refl, refl)
+-- the sale's answer and buffers are the solve's
+pub sells-the-solve : SellsTheSolve
+unfolding saleOf
+sells-the-solve s limits x = (refl, refl)
 
+module _ (s : List ℕ) (limits : Limits) (x : Lent) where
   verdict-unsolved : (n : ℕ) → solveOf s x .answer .number ≡ suc n → saleOf s limits x .verdict ≡ unsold (solveOf s x .answer)
   unfolding saleOf verdictOf verdictBy
   verdict-unsolved n e = go (readOf s)
@@ -245,17 +246,17 @@ module _ (s : List ℕ) (limits : Limits) (x : Lent) where
           pressed = pressed-all s l limits (solveOf s x .lent) (h 6);
         }
 
-  -- Sold means sold. For every sheet, all limits and all buffers.
-  pub sold-means-sold : saleOf s limits x .verdict .number ≡ 0 → (l : Layout) × Offered s l limits x (saleOf s limits x)
-  sold-means-sold e = go (solveOf s x .answer .number) refl
-    where
-      go : (n : ℕ) → solveOf s x .answer .number ≡ n → (l : Layout) × Offered s l limits x (saleOf s limits x)
-      go zero z =
-          let w = zero-runs s x z in
-          let l = w .0 in
-          let k : firstLine 2 (linesOf s l limits (solveOf s x)) .number ≡ 0 = sym (ap (λ (v : Verdict). v .number) (verdict-judged l (w .1) z)) ∙ e in
-          (l, offered-by l (w .1) z (none-told 2 (linesOf s l limits (solveOf s x)) (omega arith) k))
-      go (suc n) z = other (sym e ∙ ap (λ (v : Verdict). v .number) (verdict-unsolved n z))
+-- Sold means sold. For every sheet, all limits and all buffers.
+pub sold-means-sold : SoldMeansSold
+sold-means-sold s limits x e = go (solveOf s x .answer .number) refl
+  where
+    go : (n : ℕ) → solveOf s x .answer .number ≡ n → (l : Layout) × Offered s l limits x (saleOf s limits x)
+    go zero z =
+        let w = zero-runs s x z in
+        let l = w .0 in
+        let k : firstLine 2 (linesOf s l limits (solveOf s x)) .number ≡ 0 = sym (ap (λ (v : Verdict). v .number) (verdict-judged s limits x l (w .1) z)) ∙ e in
+        (l, offered-by s limits x l (w .1) z (none-told 2 (linesOf s l limits (solveOf s x)) (omega arith) k))
+    go (suc n) z = other (sym e ∙ ap (λ (v : Verdict). v .number) (verdict-unsolved s limits x n z))
 
 -- ---- June
 
@@ -283,11 +284,11 @@ module _ (s : List ℕ) (limits : Limits) (x : Lent) (l : Layout) where
   june-unoffered w (grounded i v h e) = mended-unsold (w .unrepaired) i h (freed-mends s l i (Grounded v) e (mends-grounded v))
   june-unoffered w (hanging i h t none) = none (w .joined .way i h t)
 
-  -- No solve in which a regulator was freed, a node was grounded or a head hangs on nothing is sold.
-  pub june-never-sold : readOf s ≡ Good l → June s l (saleOf s limits x) → saleOf s limits x .verdict .number ≡ 0 → ⊥
-  june-never-sold e j v =
-      let w = sold-means-sold s limits x v in
-      june-unoffered (subst (λ (k : Layout). Offered s k limits x (saleOf s limits x)) (same-layout s l (w .0) e (w .1 .solves .read)) (w .1)) j
+-- No solve in which a regulator was freed, a node was grounded or a head hangs on nothing is sold.
+pub june-never-sold : JuneNeverSold
+june-never-sold s limits x l e j v =
+    let w = sold-means-sold s limits x v in
+    june-unoffered s limits x l (subst (λ (k : Layout). Offered s k limits x (saleOf s limits x)) (same-layout s l (w .0) e (w .1 .solves .read)) (w .1)) j
 
 -- ---- why each verdict is told
 
@@ -363,19 +364,19 @@ module _ (s : List ℕ) (limits : Limits) (x : Lent) where
   unfolding saleOf
   unsolved-so n z = unsolved (omega arith)
 
-  -- Each verdict has its cause, at its place, and no line before it holds. For every sheet, all limits and all buffers.
-  pub unsold-why : Why s limits x (saleOf s limits x) (saleOf s limits x .verdict .number) (saleOf s limits x .verdict .place)
-  unsold-why = go (solveOf s x .answer .number) refl
-    where
-      go : (n : ℕ) → solveOf s x .answer .number ≡ n → told-so (saleOf s limits x .verdict .number) (saleOf s limits x .verdict .place)
-      go zero z =
-          let w = zero-runs s x z in
-          subst (λ (v : Verdict). told-so (v .number) (v .place)) (sym (verdict-judged s limits x (w .0) (w .1) z))
-          (judged-so (w .0) (w .1) z (firstLine 2 (linesOf s (w .0) limits (solveOf s x))) (lines 2 (linesOf s (w .0) limits (solveOf s x))))
-      go (suc n) z = subst (λ (v : Verdict). told-so (v .number) (v .place)) (sym (verdict-unsolved s limits x n z)) (unsolved-so n z)
+-- Each verdict has its cause, at its place, and no line before it holds. For every sheet, all limits and all buffers.
+pub unsold-why : UnsoldWhy
+unsold-why s limits x = go (solveOf s x .answer .number) refl
+  where
+    go : (n : ℕ) → solveOf s x .answer .number ≡ n → told-so s limits x (saleOf s limits x .verdict .number) (saleOf s limits x .verdict .place)
+    go zero z =
+        let w = zero-runs s x z in
+        subst (λ (v : Verdict). told-so s limits x (v .number) (v .place)) (sym (verdict-judged s limits x (w .0) (w .1) z))
+        (judged-so s limits x (w .0) (w .1) z (firstLine 2 (linesOf s (w .0) limits (solveOf s x))) (lines 2 (linesOf s (w .0) limits (solveOf s x))))
+    go (suc n) z = subst (λ (v : Verdict). told-so s limits x (v .number) (v .place)) (sym (verdict-unsolved s limits x n z)) (unsolved-so s limits x n z)
 
 -- A verdict is 8 at most.
-pub at-most-eight : (s : List ℕ) (limits : Limits) (x : Lent) → saleOf s limits x .verdict .number ≤ 8
+pub at-most-eight : AtMostEight
 at-most-eight s limits x = go (saleOf s limits x .verdict .number) (saleOf s limits x .verdict .place) (unsold-why s limits x)
   where
     go : (n p : ℕ) → Why s limits x (saleOf s limits x) n p → n ≤ 8

@@ -4,11 +4,9 @@ use mathlib.Core.Path.{_≡_, refl}
 use mathlib.Core.List.{List}
 use mathlib.Core.Bool.{Bool, true, false, cond}
 use native.Mathlib.Omega.{arith}
-use lib.Dec.{T}
 use lib.ListN.{length, getD}
 use lib.Ieee.{Float, le, lt, eq, ofBits, ofFields, odd}
 use lib.Count.{trailingZeros}
-use Rattle.constants.specs.Constants as constant
 use Rattle.records.specs.Records.{optionsOf}
 use Rattle.records.specs.declared.records.Options.{Options}
 use Rattle.found.specs.declared.Found.{Found}
@@ -16,9 +14,8 @@ use Rattle.found.specs.declared.Found.the-variants.{At, Nothing}
 use Rattle.layout.specs.declared.places.Layout.{Layout}
 use Rattle.damping.specs.Damping.{dampedOf, relativeChange, convergedOf, InRange}
 use Rattle.damping.proofs.Bounded.{in-range}
-use Rattle.state.specs.State.{State, solvedHeads}
+use Rattle.state.specs.State.{State}
 use Rattle.wild.specs.Wild.{wildPlace}
-use Rattle.update.specs.Update.{basis, updateOf}
 use Rattle.update.specs.declared.Stats.{Stats}
 use Rattle.damping.specs.declared.steps.Damping.{Damping}
 use Rattle.entries.specs.declared.Entry.{Entry}
@@ -31,6 +28,7 @@ use Rattle.entries.specs.declared.Going.the-variants.{On, Over}
 use Rattle.runs.specs.Run.{thenRun, runWith}
 use Rattle.solver.specs.Solve.{trialsOf}
 use Rattle.promises.specs.Trials.{Point, point, trialAt, runAt, dampingAfter, next, afterTrials, startPoint, runIn, pointIn}
+use Rattle.promises.specs.Statements.{SolveEachEntry, SolveEachState, SolveLastState, SolveInRange}
 use Rattle.promises.proofs.Never.{other}
 use Rattle.promises.proofs.Repairs.{step-entry, ways}
 
@@ -130,24 +128,23 @@ module _ (s : List ℕ) (l : Layout) where
 -- ---- a solve
 
 -- Of the solve of any sheet: the state that its run leaves is the one after all its entries,
-pub solve-last-state : (s : List ℕ) (l : Layout) → runIn s l .state ≡ pointIn s l (length (runIn s l .entries)) .state
+pub solve-last-state : SolveLastState
 unfolding runIn pointIn
 solve-last-state s l = last-state s l (trialsOf s) (startPoint s l)
 
-module _ (s : List ℕ) (l : Layout) (i : ℕ) where
-  -- each entry is that of a trial of the state before it,
-  pub solve-each-entry : i < length (runIn s l .entries) → getD (runIn s l .entries) i noEntry ≡ trialAt s l (pointIn s l i) .entry
-  unfolding runIn pointIn
-  solve-each-entry h = each-entry s l (trialsOf s) i (startPoint s l) h
+-- each entry is that of a trial of the state before it,
+pub solve-each-entry : SolveEachEntry
+unfolding runIn pointIn
+solve-each-entry s l i h = each-entry s l (trialsOf s) i (startPoint s l) h
 
-  -- the state after it is the one that this trial leaves,
-  pub solve-each-state : pointIn s l (suc i) .state ≡ trialAt s l (pointIn s l i) .state
-  unfolding pointIn
-  solve-each-state = each-state s l i (startPoint s l)
+-- the state after it is the one that this trial leaves,
+pub solve-each-state : SolveEachState
+unfolding pointIn
+solve-each-state s l i = each-state s l i (startPoint s l)
 
-  -- and the damping factor stays from 0.25 to 1.
-  pub solve-in-range : T (le constant.quarter (pointIn s l i .damping .factor)) × T (le (pointIn s l i .damping .factor) constant.one)
-  unfolding pointIn startPoint
-  solve-in-range =
-      let r = stays s l i (startPoint s l) start-in in
-      (r .least, r .most)
+-- and the damping factor stays from 0.25 to 1.
+pub solve-in-range : SolveInRange
+unfolding pointIn startPoint
+solve-in-range s l i =
+    let r = stays s l i (startPoint s l) start-in in
+    (r .least, r .most)

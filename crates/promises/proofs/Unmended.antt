@@ -32,12 +32,11 @@ use Rattle.entries.specs.declared.Tally.{Tally}
 use Rattle.runs.specs.Run.{thenRun, runWith, finish}
 use Rattle.answers.specs.Answers.{Lent, tooShort, failedOf}
 use Rattle.conclusion.specs.Conclusion.{unsolved, delivered, told}
-use Rattle.solver.specs.Solve.{trialsOf, startOf, runOf, solvedWith, afterShort, afterRead, solveWith, solveOf}
+use Rattle.solver.specs.Solve.{trialsOf, startOf, runOf, solvedWith, afterShort, afterRead, solveWith}
 use Rattle.promises.specs.Repairs.{stopNode, stopOf, mends}
-use Rattle.promises.specs.Count.{count}
-use Rattle.promises.specs.Marks.{marked}
+use Rattle.promises.specs.Statements.{UnmendedIsBare, UnmarkedIsBare}
 use Rattle.promises.proofs.Never.{other, never}
-use Rattle.promises.proofs.Counts.{counts}
+use Rattle.promises.proofs.Counts.{solve-counts}
 
 -- ---- one trial
 
@@ -172,15 +171,14 @@ module _ (s : List ℕ) (w : Lent) where
   read-same (Good l) f g =
       short-same l (tooShort l (trialsOf s) (length (w .heads)) (length (w .demands)) (length (w .flows)) (length (w .statuses)) (length (w .entries)) (length (w .scratch))) f g
 
-  -- Demand 3: an answer that counts no freed valve and no grounded node is that of the solver that repairs nothing, with the same results and the same record.
-  pub unmended-is-bare : solveOf s w .answer .freed ≡ 0 → solveOf s w .answer .grounded ≡ 0 → solveOf s w ≡ solveWith noRepair s w
-  unfolding solveWith
-  unmended-is-bare f g = read-same (readOf s) f g
+-- Demand 3: an answer that counts no freed valve and no grounded node is that of the solver that repairs nothing, with the same results and the same record.
+pub unmended-is-bare : UnmendedIsBare
+unfolding solveWith
+unmended-is-bare s w f g = read-same s w (readOf s) f g
 
-  -- The same by the bytes of the record: no VF and no GN stands in it.
-  pub unmarked-is-bare : count (solveOf s w .answer .trials) (marked 86 70 (solveOf s w .lent .entries)) ≡ 0 → count (solveOf s w .answer .trials) (marked 71 78 (solveOf s w .lent .entries)) ≡ 0
-      → solveOf s w ≡ solveWith noRepair s w
-  unmarked-is-bare f g = unmended-is-bare (counts s w .freed ∙ f) (counts s w .grounded ∙ g)
+-- The same by the bytes of the record: no VF and no GN stands in it.
+pub unmarked-is-bare : UnmarkedIsBare
+unmarked-is-bare s w f g = unmended-is-bare s w (solve-counts s w .freed ∙ f) (solve-counts s w .grounded ∙ g)
 
 -- ---- the solver that repairs nothing
 

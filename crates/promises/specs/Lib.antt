@@ -13,3 +13,8 @@ pub mod Causes
 pub mod Example
 pub mod Sold
 pub mod Flips
+pub mod Grounding
+pub mod Wilds
+pub mod Convergence
+pub mod Places
+pub mod Statements

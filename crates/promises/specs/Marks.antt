@@ -14,6 +14,10 @@ use Rattle.promises.specs.Count.{count}
 unfoldable pub marked : ℕ → ℕ → List ℕ → ℕ → Bool
 marked a b bytes i = eqb (getD bytes (4 * i) 0) a && eqb (getD bytes (4 * i + 1) 0) b
 
+-- the number of the ith entry, the lower byte first
+abbrev pub numberAt : List ℕ → ℕ → ℕ
+numberAt bytes i = getD bytes (4 * i + 2) 0 + 256 * getD bytes (4 * i + 3) 0
+
 -- an answer's counts are those of the marks in its record
 pub record Counted (o : Solved) : Type 0 where
   pub freed : o .answer .freed ≡ count (o .answer .trials) (marked 86 70 (o .lent .entries))
