@@ -42,7 +42,7 @@ pub fn copy_bytes(to: &mut [u8], from: &[u8], n: usize)
     requires { ⌜ (n ≤ length (now to)) × (n ≤ length (now from)) ⌝ }
     ensures { λ _. ⌜ now (to .exit) ≡ copied n (now (from .entry)) (now (to .entry)) ⌝ }
 {
-    for i in 0..n {
-        to[i] = from[i];
+    for k in 0..n {
+        to[k] = from[k];
     }
 }

@@ -9,10 +9,10 @@ use Rattle.columns.proofs.copy_bytes.Statement.{statement}
 use Rattle.columns.proofs.copy_bytes.Tie as tie
 
 abbrev Inv-loop : tie.InvT-loop
-Inv-loop to₀ from n i₀ to i = (length to ≡ length to₀) × (i ≤ n) × (to ≡ copied i from to₀)
+Inv-loop to₀ from n k₀ to k = (length to ≡ length to₀) × (k ≤ n) × (to ≡ copied k from to₀)
 
 abbrev μ-loop : tie.MeasureT-loop
-μ-loop to₀ from n i₀ to i = n - i
+μ-loop to₀ from n k₀ to k = n - k
 
 loop-holds : tie.Need-loop-holds Inv-loop μ-loop
 unfolding copied
@@ -25,7 +25,7 @@ loop-again c =
 
 returns : tie.Need-returns Inv-loop μ-loop
 returns c =
-    let p : c .before .loop .i ≡ c .before .before .args .n = omega arith in
+    let p : c .before .loop .k ≡ c .before .before .args .n = omega arith in
     rw (← p) (c .before .loop .inv .2)
 
 pub copy-bytes-spec : {M : Type 1} → statement M
