@@ -1,9 +1,9 @@
 /* The network solver, as C calls it: link with libdesk.a (rt staticlib desk).
 
    A buffer is its start and its length in entries. An empty buffer may have any start, a null one too.
-   Buffers must not overlap one another or the sheet. Nothing is kept between two calls, and nothing but
-   these buffers is written: several threads may call at the same time, each with buffers of its own (several
-   may lend the same sheet).
+   Buffers must not overlap one another, the sheet or a state. Nothing is kept between two calls but what the
+   caller keeps, and nothing but what is lent is written: several threads may call at the same time, each with
+   buffers and a state of its own (several may lend the same sheet).
 
    Stack that a call needs below its caller's frame, whatever the sheet: 20 KiB for desk_solve, 32 KiB for
    desk_verdict (17,327 and 28,591 bytes at most were measured on x86-64). A thread needs some KiB more for
@@ -103,6 +103,75 @@ void desk_verdict(const uint8_t *sheet, size_t sheet_length,
                   uint8_t *record, size_t record_length,
                   double *scratch, size_t scratch_length,
                   uint64_t counts[5], double totals[3], uint64_t verdict[2]);
+
+/* The same solve one trial at a time, so that a screen can be drawn between trials: start once, then take trials
+   until the answer is told. Taken so, the trials come to desk_solve's answer, record and results, after as many
+   calls as it counts trials.
+
+   What the caller keeps between calls, and no one else writes:
+     the sheet     the same bytes for the start and for every trial
+     the state     as the start and the trials before left it. After each trial it holds what the trial came to,
+                   one entry a node or a link of the sheet: heads in feet, demands (what is asked) and drawn flows in
+                   cubic feet per second, flows, statuses, and grounded, which is not 0 for a node tied to a
+                   reservoir that is not there
+     the record    its first 4 bytes a trial taken; a trial writes the next 4 and no others
+   The buffers are desk_solve's, of at least the same lengths. They may be other ones in each call if the bytes of
+   the record above go with them; of scratch and of the four results nothing is kept from one call to the next.
+   Bytes of the state that no start and trials left are safe too (no call writes outside what it is lent), but what
+   is told of them means nothing.
+
+   told, in any case:
+     told[0]  0  the state is ready, or a trial was taken: more are to be taken. told[3] to told[5] so far
+              1  the answer: told[1] to told[5] are desk_solve's counts, and the state's sums end with its totals
+              2  refused: told[1] and told[2] are desk_solve's number, 1 to 5, and place
+     told[1] to told[5]  number, place, trials, freed valves, grounded nodes
+
+   Changed: on 2 nothing, neither the state nor a buffer; it is not the answer, and the next trial goes on as if that
+   call had not been. On 0 the state, 4 bytes of the record, and the first 4,096 numbers of scratch, which are +0.0.
+   On 1 these, and where the number is 0 the four results, as desk_solve leaves them. Once the answer was told every
+   trial tells it again, whatever the sheet and the buffers, and nothing changes. The start refuses with 1 to 4. */
+typedef struct desk_state {
+    double heads[64], demands[64], drawn[64], flows[128];
+    double sums[5];     /* damping factor, previous change, total demand, total supply, error */
+    uint64_t counts[6]; /* what the last trial told */
+    uint8_t statuses[128], grounded[64];
+} desk_state;
+
+void desk_start(const uint8_t *sheet, size_t sheet_length,
+                double state_heads[64], double state_demands[64], double state_drawn[64], double state_flows[128],
+                uint8_t state_statuses[128], uint8_t state_grounded[64], double state_sums[5], uint64_t state_counts[6],
+                uint64_t told[6]);
+
+void desk_trial(const uint8_t *sheet, size_t sheet_length,
+                double state_heads[64], double state_demands[64], double state_drawn[64], double state_flows[128],
+                uint8_t state_statuses[128], uint8_t state_grounded[64], double state_sums[5], uint64_t state_counts[6],
+                double *heads, size_t heads_length,
+                double *demands, size_t demands_length,
+                double *flows, size_t flows_length,
+                uint8_t *statuses, size_t statuses_length,
+                uint8_t *record, size_t record_length,
+                double *scratch, size_t scratch_length,
+                uint64_t told[6]);
+
+static inline void desk_start_state(const uint8_t *sheet, size_t sheet_length, desk_state *s, uint64_t told[6])
+{
+    desk_start(sheet, sheet_length, s->heads, s->demands, s->drawn, s->flows, s->statuses, s->grounded, s->sums,
+               s->counts, told);
+}
+
+static inline void desk_trial_state(const uint8_t *sheet, size_t sheet_length, desk_state *s,
+                                    double *heads, size_t heads_length,
+                                    double *demands, size_t demands_length,
+                                    double *flows, size_t flows_length,
+                                    uint8_t *statuses, size_t statuses_length,
+                                    uint8_t *record, size_t record_length,
+                                    double *scratch, size_t scratch_length,
+                                    uint64_t told[6])
+{
+    desk_trial(sheet, sheet_length, s->heads, s->demands, s->drawn, s->flows, s->statuses, s->grounded, s->sums,
+               s->counts, heads, heads_length, demands, demands_length, flows, flows_length, statuses,
+               statuses_length, record, record_length, scratch, scratch_length, told);
+}
 
 #ifdef __cplusplus
 }

@@ -1,4 +1,4 @@
-"""The example in C over include/desk.h and libdesk.a, built and run: natively on x86-64, elsewhere with the kit's
+"""The examples in C over include/desk.h and libdesk.a, built and run: natively on x86-64, elsewhere with the kit's
 compiler and emulator, since the library is for x86-64."""
 import os
 import platform
@@ -15,13 +15,14 @@ import install  # noqa: E402
 from coordinator import listings  # noqa: E402
 from coordinator import programs  # noqa: E402
 
-SOURCE = os.path.join(ROOT, "examples", "c", "solve.c")
+SOURCES = os.path.join(ROOT, "examples", "c")
+SOURCE = os.path.join(SOURCES, "solve.c")
 INCLUDE = os.path.join(ROOT, "include")
 LIBRARY = os.path.join(ROOT, "target", "staticlib", "libdesk.a")
 
 
-def said(*words):
-    return subprocess.run(words, stdout=subprocess.PIPE, check=True, universal_newlines=True).stdout.strip()
+def said(*words, given=None):
+    return subprocess.run(words, input=given, stdout=subprocess.PIPE, check=True, universal_newlines=True).stdout.strip()
 
 
 def build_here(program, include=INCLUDE, library=LIBRARY, source=SOURCE):
@@ -40,18 +41,56 @@ def build_by_kit(program, include=INCLUDE, library=LIBRARY, source=SOURCE):
     return programs.by_loader(program)
 
 
+def sheet(name):
+    return os.path.join(ROOT, "examples", name + ".sheet")
+
+
+def listed(path):
+    with open(path, "rb") as file:
+        return listings.Listing(programs.run("listing", file.read()).decode("ascii"))
+
+
+SOLVED = ("looped", "june", "night", "document01", "dry-week/giving-way")
+
+
 class FromC(unittest.TestCase):
-    def test_short_buffers_are_refused_and_later_entries_stay(self):
+    @classmethod
+    def setUpClass(cls):
         install.have_library()
-        with tempfile.TemporaryDirectory() as folder:
-            build = build_here if platform.machine() == "x86_64" else build_by_kit
-            command = build(os.path.join(folder, "solve"))
-            for name in ("looped", "june", "night", "document01", "dry-week/giving-way"):
-                with self.subTest(name):
-                    self.check(command, os.path.join(ROOT, "examples", name + ".sheet"))
-            refused = said(*command, os.path.join(ROOT, "examples", "refused.sheet"))
-            self.assertEqual(refused.splitlines(), ["number 3, place 168, 0 trials, 0 freed, 0 grounded",
-                                                    "verdict 1, place 3: it must not be sold"])
+        folder = tempfile.TemporaryDirectory()
+        cls.addClassCleanup(folder.cleanup)
+        build = build_here if platform.machine() == "x86_64" else build_by_kit
+        cls.solve, cls.steps = (build(os.path.join(folder.name, name), source=os.path.join(SOURCES, name + ".c")) for name in ("solve", "steps"))
+
+    def test_short_buffers_are_refused_and_later_entries_stay(self):
+        for name in SOLVED:
+            with self.subTest(name):
+                self.check(self.solve, sheet(name))
+        refused = said(*self.solve, sheet("refused"))
+        self.assertEqual(refused.splitlines(), ["number 3, place 168, 0 trials, 0 freed, 0 grounded",
+                                                "verdict 1, place 3: it must not be sold"])
+
+    def test_one_trial_at_a_time_comes_to_the_listing(self):
+        for name in SOLVED:
+            with self.subTest(name):
+                listing = listed(sheet(name))
+                lines = said(*self.steps, sheet(name)).splitlines()
+                self.assertEqual(lines[0], "a record too short: told 2, number 5, place 4, nothing changed")
+                self.assertEqual([line.split(",")[0] for line in lines[1:-3]],
+                                 ["trial %d: %s" % pair for pair in enumerate(listing.record, 1)])
+                self.assertEqual(lines[-3:], [
+                    "number 0, place 0, %d trials, %d freed, %d grounded" % (listing.trials, listing.freed, listing.grounded),
+                    "demand %.4f cfs, supply %.4f cfs" % listing.balance[:2],
+                    "one trial more: told again, nothing changed"])
+
+    def test_a_refused_sheet_is_told_again(self):
+        self.assertEqual(said(*self.steps, sheet("refused")).splitlines(),
+                         ["number 3, place 168, 0 trials, 0 freed, 0 grounded", "one trial more: told again, nothing changed"])
+
+    def test_it_stops_when_the_person_says_so(self):
+        lines = said(*self.steps, sheet("june"), "ask", given="\n\nquit\n").splitlines()
+        first = enumerate(listed(sheet("june")).record[:3], 1)
+        self.assertEqual([line.split(",")[0] for line in lines[1:]], ["trial %d: %s" % pair for pair in first] + ["stopped after 3 trials"])
 
     def verdict(self, data):
         """The example's line on it, by what the program `verdict` says under the same limits."""

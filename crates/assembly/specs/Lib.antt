@@ -1,2 +1,3 @@
 -- The specs of `assembly`.
 pub mod Assembly
+pub mod Unfilled

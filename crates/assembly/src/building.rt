@@ -6,6 +6,7 @@ ghost use lib.ListN.{length};
 ghost use Rattle.power.specs.Tables.{powerTable};
 ghost use Rattle.numbering.specs.Numbering.{RowsRight, RowBelow};
 ghost use Rattle.bends.specs.Bends.{Bending, bentMatrix};
+ghost use Rattle.columns.specs.Columns.{zeros};
 ghost use Rattle.assembly.specs.Assembly.{system, Given, Sized, view, withLinks, demandsTaken, rightOf, groundOf, groundedOf, assembleOf};
 use bends::add_bends;
 use columns::clear;
@@ -116,8 +117,8 @@ fn add_grounded(sheet: &[u8], l: Layout, unknowns: &[usize], grounded: &[bool], 
     }
 }
 
-// Fills the matrix and the right side, whatever they held, and the links' g and y. The columns of
-// links that are not in service keep what they held.
+// Fills the matrix, which is all +0.0, the right side, whatever it held, and the links' g and y. The
+// columns of links that are not in service keep what they held.
 pub fn assemble<'a>(
     sheet: &[u8],
     l: Layout,
@@ -137,11 +138,11 @@ pub fn assemble<'a>(
 )
     requires { ⌜ Given l (now sheet) (now unknowns) (view (now heads) (now flows) (now statuses) (now excess)) ⌝ }
     requires { ⌜ Sized l (system (now matrix) (now rhs) (now g) (now y)) ⌝ }
+    requires { ⌜ now matrix ≡ zeros 4096 ⌝ }
     requires { ⌜ (l .nodes ≤ length (now demands)) × ((l .nodes ≤ length (now drawn)) × (l .nodes ≤ length (now grounded))) ⌝ }
     requires { ⌜ now table ≡ powerTable ⌝ }
     ensures { λ _. ⌜ system (now (matrix .exit)) (now (rhs .exit)) (now (g .exit)) (now (y .exit)) ≡ assembleOf (now (sheet .entry)) l (view (now (heads .entry)) (now (flows .entry)) (now (statuses .entry)) (now (excess .entry))) (now (demands .entry)) (now (drawn .entry)) (now (grounded .entry)) (system (now (matrix .entry)) (now (rhs .entry)) (now (g .entry)) (now (y .entry))) ⌝ }
 {
-    clear(4096, matrix);
     clear(64, rhs);
     add_links(
         sheet,

@@ -39,7 +39,7 @@ fn result_lines(
 }
 
 // All lines of an answer. The sheet is read again for its counts of nodes and links.
-fn tell(
+pub fn tell(
     sheet: &[u8],
     a: Answer,
     heads: &[f64],

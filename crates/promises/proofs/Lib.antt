@@ -1,6 +1,5 @@
 pub mod Bench
 pub mod Flags
-pub mod Unfilled
 pub mod Never
 pub mod Repairs
 pub mod Trials

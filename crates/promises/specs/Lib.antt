@@ -1,6 +1,5 @@
 -- The specs of `promises`.
 pub mod Bench
-pub mod Unfilled
 pub mod Count
 pub mod Repairs
 pub mod Trials

@@ -1,6 +1,6 @@
 -- One turn of the run of trials, over plain variables. Assumes nothing.
 use Prim.Native.Nat.{ℕ, zero, suc, _+_, _-_, _≤_, _<_}
-use mathlib.Core.Path.{_≡_, refl}
+use mathlib.Core.Path.{_≡_, refl, ap, _∙_}
 use mathlib.Core.List.{List, [], _∷_}
 use mathlib.Core.Bool.{Bool}
 use native.Mathlib.Omega.{arith}
@@ -15,13 +15,13 @@ use Rattle.state.specs.State.{State}
 use Rattle.trial.specs.Trial.{Room, Outcome, outcome, Repair, trialWith}
 use Rattle.entries.specs.Entries.{goingOf, counted, tallied}
 use Rattle.marks.specs.Marks.{markOf, putOf, written}
+use Rattle.marks.specs.declared.Mark.{Mark}
 use Rattle.entries.specs.declared.Ended.{Ended}
 use Rattle.entries.specs.declared.Ended.the-variants.{Limit}
 use Rattle.entries.specs.declared.Going.{Going}
 use Rattle.entries.specs.declared.Going.the-variants.{On, Over}
-use Rattle.marks.specs.declared.Mark.{Mark}
 use Rattle.entries.specs.declared.Tally.{Tally}
-use Rattle.runs.specs.Run.{thenRun, runWith, finish}
+use Rattle.runs.specs.Run.{Turned, turnOf, Run, Finished, thenRun, runWith, finish}
 
 -- every lent slice has the length that it came with
 pub record Kept (t₀ t : State) (r₀ r : List ℕ) (x₀ x : List Float) : Type 0 where
@@ -72,26 +72,43 @@ run-length repair s l (suc m) d t = go (trialWith repair s l d t) (goingOf d (tr
     go o (On d') ih = let h = ih d' (o .state) in omega arith
     go o (Over z) ih = omega arith
 
--- a trial after which the run goes on, one that ends it, and the limit
-module _ (repair : Repair) (s : List ℕ) (l : Layout) (m i : ℕ) (d : Damping) (tally : Tally) (r : List ℕ) (t : State) where
-  pub run-on : (e : Entry) (t' : State) (mark : Mark) (r' : List ℕ) (tally' : Tally) (g : Going) (d' : Damping) → i < m
-      → outcome e t' ≡ trialWith repair s l d t → mark ≡ markOf e → r' ≡ putOf r i mark → tally' ≡ counted tally e → g ≡ goingOf d e → g ≡ On d'
-      → finish (i + 1) tally' r' (runWith repair s l (m - (i + 1)) d' t') ≡ finish i tally r (runWith repair s l (m - i) d t)
-  unfolding runWith thenRun finish written tallied
-  run-on e t' mark r' tally' g d' h o em er et eg on =
-      let p : m - i ≡ suc (m - (i + 1)) = omega arith in
-      rw (p, ← o, ← eg, on, er, em, et, add-one)
+-- a turn, after which the run goes on or is over, and the limit
+module _ (repair : Repair) (s : List ℕ) (l : Layout) (m : ℕ) (d : Damping) (tally : Tally) (r : List ℕ) (t : State) where
+  pub turn-of : (e : Entry) (t' : State) (mark : Mark) (r' : List ℕ) (g : Going) (tally' : Tally)
+      → outcome e t' ≡ trialWith repair s l d t → mark ≡ markOf e → r' ≡ putOf r (tally .trials) mark → g ≡ goingOf d e → tally' ≡ counted tally e
+      → record { turn = record { going = g; tally = tally' }; bytes = r'; state = t' } ≡ turnOf repair s l d tally r t
+  unfolding turnOf
+  turn-of e t' mark r' g tally' o em er eg et = rw (← o, er, em, eg, et)
 
-  pub run-over : (e : Entry) (t' : State) (mark : Mark) (r' : List ℕ) (tally' : Tally) (g : Going) (z : Ended) → i < m
-      → outcome e t' ≡ trialWith repair s l d t → mark ≡ markOf e → r' ≡ putOf r i mark → tally' ≡ counted tally e → g ≡ goingOf d e → g ≡ Over z
-      → record { ran = record { ended = z; tally = tally' }; bytes = r'; state = t' } ≡ finish i tally r (runWith repair s l (m - i) d t)
-  unfolding runWith thenRun finish written tallied
-  run-over e t' mark r' tally' g z h o em er et eg over =
-      let p : m - i ≡ suc (m - (i + 1)) = omega arith in
-      rw (p, ← o, ← eg, over, er, em, et)
+  pub turn-counts : (w : Turned) → w ≡ turnOf repair s l d tally r t → Counts tally (w .turn .tally)
+  unfolding turnOf
+  turn-counts w e = rw e (counts tally (trialWith repair s l d t .entry))
 
-  pub run-limit : m ≤ i → record { ran = record { ended = Limit; tally = tally }; bytes = r; state = t } ≡ finish i tally r (runWith repair s l (m - i) d t)
+  -- what is still to run
+  abbrev left : ℕ → Run
+  left i = runWith repair s l (m - i) d t
+
+  pub run-on : (w : Turned) (d' : Damping) → tally .trials < m → w ≡ turnOf repair s l d tally r t → w .turn .going ≡ On d'
+      → finish (w .turn .tally .trials) (w .turn .tally) (w .bytes) (runWith repair s l (m - w .turn .tally .trials) d' (w .state)) ≡ finish (tally .trials) tally r (left (tally .trials))
+  unfolding turnOf runWith thenRun finish written tallied
+  run-on w d' h e on =
+      let i = tally .trials in
+      let from : ℕ → Finished = λ n. finish n (w .turn .tally) (w .bytes) (runWith repair s l (m - n) d' (w .state)) in
+      let p : m - i ≡ suc (m - suc i) = omega arith in
+      let g : goingOf d (trialWith repair s l d t .entry) ≡ On d' = rw e at on in
+      let next : from (suc i) ≡ finish i tally r (left i) = rw (e, p, g) in
+      ap from (turn-counts w e .trials ∙ add-one i) ∙ next
+
+  pub run-over : (w : Turned) (z : Ended) → tally .trials < m → w ≡ turnOf repair s l d tally r t → w .turn .going ≡ Over z
+      → record { ran = record { ended = z; tally = w .turn .tally }; bytes = w .bytes; state = w .state } ≡ finish (tally .trials) tally r (left (tally .trials))
+  unfolding turnOf runWith thenRun finish written tallied
+  run-over w z h e over =
+      let p : m - tally .trials ≡ suc (m - suc (tally .trials)) = omega arith in
+      let g : goingOf d (trialWith repair s l d t .entry) ≡ Over z = rw e at over in
+      rw (e, p, g)
+
+  pub run-limit : m ≤ tally .trials → record { ran = record { ended = Limit; tally = tally }; bytes = r; state = t } ≡ finish (tally .trials) tally r (left (tally .trials))
   unfolding runWith thenRun finish written tallied
   run-limit h =
-      let p : m - i ≡ 0 = omega arith in
+      let p : m - tally .trials ≡ 0 = omega arith in
       rw p

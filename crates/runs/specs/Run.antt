@@ -1,4 +1,4 @@
--- A run of trials: its entries in order, how it ended, and the state that it left. Definitions only.
+-- One turn: a trial with its entry in the record; and a run of trials: its entries in order, how it ended, and the state that it left. Definitions only.
 use Prim.Native.Nat.{ℕ, zero, suc}
 use mathlib.Core.List.{List, [], _∷_}
 use Rattle.damping.specs.declared.steps.Damping.{Damping}
@@ -6,14 +6,31 @@ use Rattle.entries.specs.declared.Entry.{Entry}
 use Rattle.layout.specs.declared.places.Layout.{Layout}
 use Rattle.state.specs.State.{State}
 use Rattle.trial.specs.Trial.{Outcome, Repair, trialWith}
-use Rattle.entries.specs.Entries.{goingOf, tallied}
-use Rattle.marks.specs.Marks.{written}
+use Rattle.entries.specs.Entries.{goingOf, counted, tallied}
+use Rattle.marks.specs.Marks.{markOf, putOf, written}
 use Rattle.entries.specs.declared.Ended.{Ended}
 use Rattle.entries.specs.declared.Ended.the-variants.{Limit}
 use Rattle.entries.specs.declared.Going.{Going}
 use Rattle.entries.specs.declared.Going.the-variants.{On, Over}
 use Rattle.entries.specs.declared.Tally.{Tally}
 use Rattle.runs.specs.declared.Ran.{Ran}
+use Rattle.runs.specs.declared.Turn.{Turn}
+
+-- what a turn leaves: what follows with the tally, the record's bytes and the state
+pub record Turned : Type 0 where
+  pub turn : Turn
+  pub bytes : List ℕ
+  pub state : State
+
+-- one trial: its entry is put into the record behind those of the tally, and counted
+unfoldable pub turnOf : Repair → List ℕ → Layout → Damping → Tally → List ℕ → State → Turned
+turnOf repair s l d tally bytes t =
+    let o = trialWith repair s l d t in
+    record {
+      turn = record { going = goingOf d (o .entry); tally = counted tally (o .entry) };
+      bytes = putOf bytes (tally .trials) (markOf (o .entry));
+      state = o .state;
+    }
 
 pub record Run : Type 0 where
   pub entries : List Entry

@@ -1,6 +1,6 @@
-// Trials until one ends the run, at most as many as the sheet allows, with an entry for each.
+// One trial with its entry, and trials until one ends the run, at most as many as the sheet allows.
 ghost use mathlib.Core.Path.{_≡_};
-ghost use Prim.Native.Nat.{_*_, _≤_};
+ghost use Prim.Native.Nat.{_+_, _*_, _<_, _≤_};
 ghost use lib.ListN.{length};
 ghost use Rattle.power.specs.Tables.{powerTable};
 ghost use Rattle.columns.specs.Columns.{zeros};
@@ -9,7 +9,8 @@ ghost use Rattle.state.specs.Network.{Network};
 ghost use Rattle.state.specs.State.{state};
 ghost use Rattle.trial.specs.Trial.{Room, repairOf};
 ghost use Rattle.entries.specs.Entries.{dampingStart, none};
-ghost use Rattle.runs.specs.Run.{runWith, finish};
+ghost use Rattle.runs.specs.Run.{turnOf, runWith, finish};
+use damping::Damping;
 use entries::Ended;
 use entries::Going;
 use entries::Tally;
@@ -23,6 +24,61 @@ use marks::put;
 pub struct Ran {
     pub ended: Ended,
     pub tally: Tally,
+}
+
+// What follows a trial, and the tally with it.
+pub struct Turn {
+    pub going: Going,
+    pub tally: Tally,
+}
+
+// One trial: its entry is put behind those of the tally, and counted. The scratch, which holds the
+// matrix meanwhile, is all +0.0 before it and after it.
+pub fn advance(
+    sheet: &[u8],
+    l: Layout,
+    unknowns: &[usize],
+    table: &[u64; 1153],
+    d: Damping,
+    tally: Tally,
+    heads: &mut [f64],
+    demands: &mut [f64],
+    drawn: &mut [f64],
+    flows: &mut [f64],
+    statuses: &mut [u8],
+    grounded: &mut [bool],
+    entries: &mut [u8],
+    scratch: &mut [f64],
+) -> Turn
+    requires { ⌜ Network l (now sheet) ⌝ }
+    requires { ⌜ (l .nodes ≤ length (now unknowns)) × (RowsRight l (now sheet) (now unknowns)) ⌝ }
+    requires { ⌜ now table ≡ powerTable ⌝ }
+    requires { ⌜ Room l (state (now heads) (now demands) (now drawn) (now flows) (now statuses) (now grounded)) ⌝ }
+    requires { ⌜ (tally .trials < 65535) × ((tally .freed ≤ tally .trials) × (tally .grounded ≤ tally .trials)) ⌝ }
+    requires { ⌜ (4 * tally .trials + 4 ≤ length (now entries)) × (now scratch ≡ zeros 4096) ⌝ }
+    ensures turn { λ r. ⌜ record { turn = r; bytes = now (entries .exit); state = state (now (heads .exit)) (now (demands .exit)) (now (drawn .exit)) (now (flows .exit)) (now (statuses .exit)) (now (grounded .exit)) } ≡ turnOf repairOf (now (sheet .entry)) l d tally (now (entries .entry)) (state (now (heads .entry)) (now (demands .entry)) (now (drawn .entry)) (now (flows .entry)) (now (statuses .entry)) (now (grounded .entry))) ⌝ }
+    ensures cleared { λ _. ⌜ now (scratch .exit) ≡ zeros 4096 ⌝ }
+{
+    let e = trial::trial(
+        sheet,
+        l,
+        unknowns,
+        table,
+        d,
+        heads,
+        demands,
+        drawn,
+        flows,
+        statuses,
+        grounded,
+        scratch,
+    );
+    columns::clear(64 * l.unknowns, scratch);
+    put(entries, tally.trials, marked(e));
+    Turn {
+        going: go(e, d),
+        tally: count(tally, e),
+    }
 }
 
 // Trials until one ends the run, or until there are no more; the scratch is all +0.0 at the end.
@@ -49,37 +105,37 @@ pub fn run_trials(
     ensures state { λ r. ⌜ record { ran = r; bytes = now (entries .exit); state = state (now (heads .exit)) (now (demands .exit)) (now (drawn .exit)) (now (flows .exit)) (now (statuses .exit)) (now (grounded .exit)) } ≡ finish 0 none (now (entries .entry)) (runWith repairOf (now (sheet .entry)) l trials dampingStart (state (now (heads .entry)) (now (demands .entry)) (now (drawn .entry)) (now (flows .entry)) (now (statuses .entry)) (now (grounded .entry)))) ⌝ }
     ensures cleared { λ r. ⌜ now (scratch .exit) ≡ zeros 4096 ⌝ }
 {
+    columns::clear(4096, scratch);
     let mut d = damping_start();
     let mut tally = Tally {
         trials: 0,
         freed: 0,
         grounded: 0,
     };
-    let mut i: usize = 0;
-    while i < trials {
-        let e = trial::trial(
+    while tally.trials < trials {
+        let turn = advance(
             sheet,
             l,
             unknowns,
             table,
             d,
+            tally,
             heads,
             demands,
             drawn,
             flows,
             statuses,
             grounded,
+            entries,
             scratch,
         );
-        put(entries, i, marked(e));
-        tally = count(tally, e);
-        i += 1;
-        match go(e, d) {
+        let going = turn.going;
+        tally = turn.tally;
+        match going {
             Going::On(next) => {
                 d = next;
             }
             Going::Over(ended) => {
-                columns::clear(4096, scratch);
                 return Ran {
                     ended: ended,
                     tally: tally,
@@ -87,7 +143,6 @@ pub fn run_trials(
             }
         }
     }
-    columns::clear(4096, scratch);
     Ran {
         ended: Ended::Limit,
         tally: tally,

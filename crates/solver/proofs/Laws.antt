@@ -7,7 +7,7 @@ use native.Mathlib.Omega.{arith}
 use native.Mathlib.Nat.{le-of-eq}
 use borrow.Author.Tests.{leb-true}
 use lib.Dec.{leb}
-use lib.ListN.{length, drop, replicate}
+use lib.ListN.{length, drop}
 use lib.Ieee.{Float, lt, le}
 use Rattle.records.specs.Records.{byteAt, pairAt, optionsOf}
 use Rattle.patterns.specs.Bytes.{fromBytes}
@@ -25,7 +25,7 @@ use Rattle.sheet.proofs.Laws.{and-left, and-right}
 use Rattle.accepted.proofs.Accepts.{accepts, ends-are, laid-are, unknowns-are}
 use Rattle.columns.specs.Columns.{zeros}
 use Rattle.state.specs.Network.{Network}
-use Rattle.state.specs.State.{State, state, headsFrom, demandsFrom, flowsFrom, codesFrom}
+use Rattle.state.specs.State.{State}
 use Rattle.trial.specs.Trial.{Repair}
 use Rattle.entries.specs.Entries.{dampingStart, none}
 use Rattle.runs.specs.Run.{Finished, runWith, finish}
@@ -58,13 +58,6 @@ few-trials s l h = trials-in baseBounds s (accepts baseBounds s l h .options)
 pub emptied-part : (y x : List Float) → y ≡ zeros 4096 → y ++ drop 4096 x ≡ emptied x
 unfolding emptied
 emptied-part y x e = rw e
-
--- the columns as the sheet gives them are what a solve starts from
-pub start-of : (s : List ℕ) (l : Layout) (h d q : List Float) (codes : List ℕ)
-    → h ≡ headsFrom s l (l .nodes) (zeros 64) → d ≡ demandsFrom s l (l .nodes) (zeros 64) → q ≡ flowsFrom s l (l .links) (zeros 128)
-    → codes ≡ codesFrom s l (l .links) (replicate 128 0) → state h d d q codes (replicate 64 false) ≡ startOf s l
-unfolding startOf
-start-of s l h d q codes eh ed eq ec = rw (eh, ed, eq, ec)
 
 pub run-of : (repair : Repair) (s : List ℕ) (l : Layout) (trials : ℕ) (bytes : List ℕ) (t : State) (f : Finished)
     → trials ≡ trialsOf s → t ≡ startOf s l → f ≡ finish 0 none bytes (runWith repair s l trials dampingStart t) → f ≡ runOf repair s l bytes

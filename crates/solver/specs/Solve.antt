@@ -1,8 +1,7 @@
 -- The whole solve: from a sheet and six lent buffers to an answer and the buffers after it. Definitions only.
 use Prim.Native.Nat.{ℕ}
 use mathlib.Core.List.{List}
-use mathlib.Core.Bool.{false}
-use lib.ListN.{length, replicate}
+use lib.ListN.{length}
 use Rattle.records.specs.Records.{optionsOf}
 use Rattle.refusals.specs.Refusals.{numberOf, placeOf}
 use Rattle.sheet.specs.Read.{readOf}
@@ -11,23 +10,16 @@ use Rattle.found.specs.declared.Found.the-variants.{At, Nothing}
 use Rattle.sheet.specs.declared.reading.Reading.{Reading}
 use Rattle.sheet.specs.declared.reading.Reading.the-variants as reading
 use Rattle.layout.specs.declared.places.Layout.{Layout}
-use Rattle.columns.specs.Columns.{zeros}
-use Rattle.state.specs.State.{State, state, headsFrom, demandsFrom, flowsFrom, codesFrom}
 use Rattle.trial.specs.Trial.{Repair, repairOf}
 use Rattle.entries.specs.Entries.{dampingStart, none}
 use Rattle.runs.specs.Run.{runWith, Finished, finish}
 use Rattle.answers.specs.Answers.{Lent, Solved, tooShort, refusedOf}
 use Rattle.conclusion.specs.Conclusion.{told}
+unfoldable pub use Rattle.starts.specs.Start.{startOf}
 
 -- how many trials the sheet allows
 abbrev pub trialsOf : List ℕ → ℕ
 trialsOf s = optionsOf s .trials
-
--- the columns that a solve starts from, as the sheet gives them: drawn flows are the demands, and no node is grounded
-unfoldable pub startOf : List ℕ → Layout → State
-startOf s l =
-    state (headsFrom s l (l .nodes) (zeros 64)) (demandsFrom s l (l .nodes) (zeros 64)) (demandsFrom s l (l .nodes) (zeros 64))
-    (flowsFrom s l (l .links) (zeros 128)) (codesFrom s l (l .links) (replicate 128 0)) (replicate 64 false)
 
 -- the run of a sheet, over a record
 unfoldable pub runOf : Repair → List ℕ → Layout → List ℕ → Finished

@@ -77,12 +77,11 @@ fn solved(
 {
     let mut h = [0.0f64; 64];
     let mut d = [0.0f64; 64];
+    let mut f = [0.0f64; 64];
     let mut q = [0.0f64; 128];
     let mut c = [0u8; 128];
     let mut z = [false; 64];
-    state::start_nodes(sheet, l, &mut h, &mut d);
-    state::start_links(sheet, l, &mut q, &mut c);
-    let mut f = d;
+    starts::start_columns(sheet, l, &mut h, &mut d, &mut f, &mut q, &mut c);
     let ran = run(
         sheet,
         l,

@@ -1,5 +1,5 @@
 -- One trial over plain variables: what the calls leave, put together. Assumes nothing.
-use Prim.Native.Nat.{ℕ, _<_}
+use Prim.Native.Nat.{ℕ, _*_, _<_}
 use mathlib.Core.Path.{_≡_, sym, ap, _∙_}
 use mathlib.Core.List.{List}
 use mathlib.Core.Bool.{Bool}
@@ -11,7 +11,7 @@ use Rattle.substitution.specs.Substitution.{solved}
 use Rattle.linear.specs.declared.factorization.Factored.{Factored}
 use Rattle.linear.specs.declared.factorization.Factored.the-variants.{Done, Stopped}
 use Rattle.linear.specs.declared.factorization.UnknownIndex.{UnknownIndex}
-use Rattle.columns.specs.Columns.{zeros}
+use Rattle.columns.specs.Columns.{cleared, zeros}
 use Rattle.columns.proofs.Laws.{zeros-long}
 use Rattle.linear.proofs.Laws.{stops-below}
 use Rattle.layout.specs.declared.places.Layout.{Layout}
@@ -22,6 +22,9 @@ use Rattle.numbering.proofs.Rows.{node-of}
 use Rattle.drawing.specs.Drawing.{counting}
 use Rattle.excess.specs.Excess.{excessOf}
 use Rattle.assembly.specs.Assembly.{System, system, view, assembleOf}
+use Rattle.assembly.proofs.Tail.{factors-wiped}
+use Rattle.assembly.proofs.Kept.{assemble-long}
+use Rattle.state.specs.Network.{Network}
 use Rattle.assembly.proofs.Fresh.{fresh}
 use Rattle.state.specs.State.{State, state}
 use Rattle.repair.specs.Repair.{repaired, repairAt}
@@ -67,3 +70,12 @@ unfolding repairOf
 repair-of s l t i node r codes marks e h =
     let p : node .0 ≡ i = ap (λ (k : NodeIndex). k .0) e in
     rw (← p, ← h)
+
+-- the factors that a trial leaves are gone, and all is +0.0 again, once the unknowns' columns are cleared
+pub factors-cleared : (s : List ℕ) (l : Layout) (t : State) → Network l s → cleared (64 * l .unknowns) (factorsOf s l t) ≡ zeros 4096
+unfolding factorsOf systemOf
+factors-cleared s l t net =
+    let e = excessOf s l (counting (l .pressures) (t .drawn) (t .demands)) (t .flows) (zeros 64) in
+    let v = view (t .heads) (t .flows) (t .statuses) e in
+    let w = system (zeros 4096) (zeros 64) (zeros 128) (zeros 128) in
+    factors-wiped s l v (t .demands) (t .drawn) (t .grounded) w (net .nodes) (net .unknowns) (net .ends) (zeros-long 4096) (assemble-long s l v (t .demands) (t .drawn) (t .grounded) w .matrix ∙ zeros-long 4096)

@@ -3,6 +3,7 @@ ghost use mathlib.Core.Path.{_≡_};
 ghost use Prim.Native.Nat.{_≤_};
 ghost use lib.ListN.{length};
 ghost use Rattle.power.specs.Tables.{powerTable};
+ghost use Rattle.columns.specs.Columns.{zeros};
 ghost use Rattle.numbering.specs.Numbering.{RowsRight};
 ghost use Rattle.state.specs.Network.{Network};
 ghost use Rattle.state.specs.State.{state};
@@ -13,7 +14,8 @@ use entries::Entry;
 use layout::Layout;
 use linear::Factored;
 
-// One trial. A failed one changes statuses or grounded marks alone. The scratch holds the matrix.
+// One trial. A failed one changes statuses or grounded marks alone. The scratch, all +0.0,
+// becomes the matrix and then its factors.
 pub fn trial(
     sheet: &[u8],
     l: Layout,
@@ -32,7 +34,7 @@ pub fn trial(
     requires { ⌜ (l .nodes ≤ length (now unknowns)) × (RowsRight l (now sheet) (now unknowns)) ⌝ }
     requires { ⌜ now table ≡ powerTable ⌝ }
     requires { ⌜ Room l (state (now heads) (now demands) (now drawn) (now flows) (now statuses) (now grounded)) ⌝ }
-    requires { ⌜ length (now scratch) ≡ 4096 ⌝ }
+    requires { ⌜ now scratch ≡ zeros 4096 ⌝ }
     ensures state { λ r. ⌜ outcome r (state (now (heads .exit)) (now (demands .exit)) (now (drawn .exit)) (now (flows .exit)) (now (statuses .exit)) (now (grounded .exit))) ≡ trialOf (now (sheet .entry)) l d (state (now (heads .entry)) (now (demands .entry)) (now (drawn .entry)) (now (flows .entry)) (now (statuses .entry)) (now (grounded .entry))) ⌝ }
     ensures factors { λ r. ⌜ now (scratch .exit) ≡ factorsOf (now (sheet .entry)) l (state (now (heads .entry)) (now (demands .entry)) (now (drawn .entry)) (now (flows .entry)) (now (statuses .entry)) (now (grounded .entry))) ⌝ }
 {

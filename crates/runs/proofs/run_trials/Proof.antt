@@ -2,219 +2,192 @@
 use borrow.Author.Needs.{needs}
 use native.Mathlib.Omega.{arith}
 use Prim.Native.Nat.{_-_, _≤_}
-use mathlib.Core.Path.{_≡_, refl, _∙_}
+use mathlib.Core.Path.{_≡_, _∙_}
 use native.Mathlib.Nat.{sub-zero}
 use Rattle.state.specs.State.{state}
 use Rattle.trial.specs.Trial.{repairOf}
 use Rattle.entries.specs.Entries.{dampingStart, none}
+use Rattle.columns.specs.Columns.{zeros}
 use Rattle.columns.proofs.Laws.{cleared-zeros}
 use Rattle.runs.specs.Run.{runWith, finish}
-use Rattle.runs.proofs.Laws.{Kept, kept-start, kept-room, counts, run-on, run-over, run-limit}
+use Rattle.runs.proofs.Laws.{Kept, kept-start, kept-room, Counts, turn-counts, run-on, run-over, run-limit}
 use Rattle.runs.proofs.run_trials.Statement.{statement}
 use Rattle.runs.proofs.run_trials.Tie as tie
 
 abbrev Inv-loop : tie.InvT-loop
-Inv-loop sheet l trials unknowns table heads₀ demands₀ drawn₀ flows₀ statuses₀ grounded₀ entries₀ scratch₀ d₀ tally₀ i₀ heads demands drawn flows statuses grounded entries scratch d tally i =
+Inv-loop sheet l trials unknowns table heads₀ demands₀ drawn₀ flows₀ statuses₀ grounded₀ entries₀ scratch₀ d₀ tally₀ heads demands drawn flows statuses grounded entries scratch d tally =
     Kept (state heads₀ demands₀ drawn₀ flows₀ statuses₀ grounded₀) (state heads demands drawn flows statuses grounded) entries₀ entries scratch₀ scratch
-    × (i ≤ trials)
-    × (tally .trials ≡ i)
-    × (tally .freed ≤ i)
-    × (tally .grounded ≤ i)
-    × (finish i tally entries (runWith repairOf sheet l (trials - i) d (state heads demands drawn flows statuses grounded))
+    × (tally .trials ≤ trials)
+    × (tally .freed ≤ tally .trials)
+    × (tally .grounded ≤ tally .trials)
+    × (finish (tally .trials) tally entries (runWith repairOf sheet l (trials - tally .trials) d (state heads demands drawn flows statuses grounded))
     ≡ finish 0 none entries₀ (runWith repairOf sheet l trials dampingStart (state heads₀ demands₀ drawn₀ flows₀ statuses₀ grounded₀)))
+    × (scratch ≡ zeros 4096)
 
 abbrev μ-loop : tie.MeasureT-loop
-μ-loop sheet l trials unknowns table heads₀ demands₀ drawn₀ flows₀ statuses₀ grounded₀ entries₀ scratch₀ d₀ tally₀ i₀ heads demands drawn flows statuses grounded entries scratch d tally i =
-    trials - i
+μ-loop sheet l trials unknowns table heads₀ demands₀ drawn₀ flows₀ statuses₀ grounded₀ entries₀ scratch₀ d₀ tally₀ heads demands drawn flows statuses grounded entries scratch d tally =
+    trials - tally .trials
 
 -- the places of a turn
+abbrev clear-of : tie.At-loop Inv-loop μ-loop → tie.After-clear Inv-loop μ-loop
+clear-of l = l .before .before .before .before
+
 abbrev start-of : tie.At-loop Inv-loop μ-loop → tie.Start Inv-loop μ-loop
-start-of l = l .before .before .before .before .before .before .before .before .before .before .before .before
+start-of l = clear-of l .before .before .before .before .before .before .before .before .before .before .before .before
 
-abbrev loop-of : tie.After-trial Inv-loop μ-loop → tie.At-loop Inv-loop μ-loop
-loop-of t = t .before .before .before .before .before .before .before .before .before
+abbrev test-of : tie.After-advance Inv-loop μ-loop → tie.Then1 Inv-loop μ-loop
+test-of a = a .before .before .before .before .before .before .before .before .before
 
-abbrev trial-of : tie.After-put Inv-loop μ-loop → tie.After-trial Inv-loop μ-loop
-trial-of p = p .before .before .before .before .before .before .before .before .before .before .before .before .before .before .before .before .before
+abbrev loop-of : tie.After-advance Inv-loop μ-loop → tie.At-loop Inv-loop μ-loop
+loop-of a = test-of a .before .before
 
-abbrev put-of : tie.After-count Inv-loop μ-loop → tie.After-put Inv-loop μ-loop
-put-of k = k .before .before .before
+abbrev advance-of : tie.After-tally Inv-loop μ-loop → tie.After-advance Inv-loop μ-loop
+advance-of t = t .before .before .before .before .before .before .before .before .before .before .before .before .before .before .before .before .before
 
-abbrev turn-of : tie.After-clear Inv-loop μ-loop → tie.After-go Inv-loop μ-loop
-turn-of w = w .before .before .before .before .before
+-- a turn counts one trial more
+abbrev counted-of : (a : tie.After-advance Inv-loop μ-loop) → Counts (loop-of a .loop .tally) (a .advance .result .tally)
+counted-of a = turn-counts _ _ _ 0 _ _ _ _ _ (a .advance .ensures .0)
+
+clear-requires : tie.Need-clear-requires Inv-loop μ-loop
+clear-requires c κs = omega (arith, c .before .before .before .before .before .before .before .before .before .before .before .pre .1 .1 .1 .1 .1 .1)
 
 damping-start-requires : tie.Need-damping-start-requires Inv-loop μ-loop
 damping-start-requires c κs = search needs
 
 loop-holds : tie.Need-loop-holds Inv-loop μ-loop
 loop-holds c =
-    (kept-start _ _ _, omega arith, refl, omega arith, omega arith, rw (sub-zero, c .damping-start .ensures))
+    let k = c .before .before .before in
+    (kept-start _ _ _, omega arith, omega arith, omega arith, rw (sub-zero, c .damping-start .ensures), k .clear .ensures ∙ cleared-zeros 4096 _ (k .before .before .before .before .before .before .before .before .before .before .before .before .pre .1 .1 .1 .1 .1 .1))
 
-trial-requires : tie.Need-trial-requires Inv-loop μ-loop
-trial-requires c κs =
-    let l = c .before .before .before .before .before .before .before .before in
-    let start = start-of l in
-    (start .pre .0, (start .pre .1 .0, (start .pre .1 .1 .0, (kept-room _ _ _ _ _ _ _ (l .loop .inv .0) (start .pre .1 .1 .1 .0), omega (arith, l .loop .inv .0 .scratch, start .pre .1 .1 .1 .1 .1 .1)))))
+advance-requires : tie.Need-advance-requires Inv-loop μ-loop
+advance-requires c κs =
+    let i = c .before .before .before .before .before .before .before .before in
+    let l = i .before .before in
+    let p = start-of l .pre in
+    let v = l .loop .inv in (
+      p .0,
+      (
+        p .1 .0,
+        (
+          p .1 .1 .0,
+          (
+            kept-room _ _ _ _ _ _ _ (v .0) (p .1 .1 .1 .0),
+            (
+              omega (arith, v .2, v .3, i .if1 .taken, p .1 .1 .1 .1 .0),
+              (omega (arith, v .0 .entries, i .if1 .taken, p .1 .1 .1 .1), v .5),
+            ),
+          ),
+        ),
+      ),
+    )
 
-marked-requires : tie.Need-marked-requires Inv-loop μ-loop
-marked-requires c κs = search needs
-
-put-requires : tie.Need-put-requires Inv-loop μ-loop
-put-requires c κs =
-    let t = c .before .before .before .before .before .before .before .before .before .before .before .before .before .before .before .before in
-    let l = loop-of t in
-    let start = start-of l in
-    omega (arith, l .loop .inv .0 .entries, l .loop .inv .1, t .before .before .before .before .before .before .before .before .loop-test .taken, start .pre .1 .1 .1 .1)
-
-count-requires : tie.Need-count-requires Inv-loop μ-loop
-count-requires c κs =
-    let t = trial-of (c .before .before) in
-    let l = loop-of t in
-    let start = start-of l in
-    omega (arith, l .loop .inv .2, l .loop .inv .3, l .loop .inv .4, t .before .before .before .before .before .before .before .before .loop-test .taken, start .pre .1 .1 .1 .1)
-
-add-i : tie.Need-add-i Inv-loop μ-loop
-add-i c =
-    let t = trial-of (put-of c) in
-    omega (arith, t .before .before .before .before .before .before .before .before .loop-test .taken, start-of (loop-of t) .pre .1 .1 .1 .1)
-
-go-requires : tie.Need-go-requires Inv-loop μ-loop
-go-requires c κs = search needs
-
-enum-known-next : tie.Need-enum-known-next Inv-loop μ-loop
-enum-known-next c = search needs
+enum-known-going : tie.Need-enum-known-going Inv-loop μ-loop
+enum-known-going c = search needs
 
 loop-less : tie.Need-loop-less Inv-loop μ-loop
 loop-less c =
-    let t = trial-of (put-of (c .before .before .before .before)) in
-    omega (arith, t .before .before .before .before .before .before .before .before .loop-test .taken)
+    let a = advance-of (c .before .before .before) in
+    omega (arith, test-of a .if1 .taken, counted-of a)
 
 loop-again : tie.Need-loop-again Inv-loop μ-loop
 loop-again c =
-    let k = c .before .before .before .before in
-    let p = put-of k in
-    let t = trial-of p in
-    let l = loop-of t in
-    let v = l .loop .inv .0 in
-    let u = t .trial .kept .1 .1 .1 .1 .1 in
-    let b = counts (l .loop .tally) (t .trial .result) in (
+    let a = advance-of (c .before .before .before) in
+    let v = loop-of a .loop .inv in
+    let k = v .0 in
+    let u = a .advance .kept .1 .1 .1 .1 .1 .1 in
+    let n = counted-of a in (
       record {
-        heads = u .0 ∙ v .heads;
-        demands = u .1 .0 ∙ v .demands;
-        drawn = u .1 .1 .0 ∙ v .drawn;
-        flows = u .1 .1 .1 .0 ∙ v .flows;
-        statuses = u .1 .1 .1 .1 .0 ∙ v .statuses;
-        grounded = u .1 .1 .1 .1 .1 .0 ∙ v .grounded;
-        entries = p .put .kept .0 ∙ v .entries;
-        scratch = u .1 .1 .1 .1 .1 .1 .0 ∙ v .scratch;
+        heads = u .0 ∙ k .heads;
+        demands = u .1 .0 ∙ k .demands;
+        drawn = u .1 .1 .0 ∙ k .drawn;
+        flows = u .1 .1 .1 .0 ∙ k .flows;
+        statuses = u .1 .1 .1 .1 .0 ∙ k .statuses;
+        grounded = u .1 .1 .1 .1 .1 .0 ∙ k .grounded;
+        entries = u .1 .1 .1 .1 .1 .1 .0 ∙ k .entries;
+        scratch = u .1 .1 .1 .1 .1 .1 .1 .0 ∙ k .scratch;
       },
-      omega (arith, t .before .before .before .before .before .before .before .before .loop-test .taken),
-      rw (k .count .ensures) (omega (arith, b, l .loop .inv .2)),
-      rw (k .count .ensures) (omega (arith, b, l .loop .inv .3)),
-      rw (k .count .ensures) (omega (arith, b, l .loop .inv .4)),
-      run-on _ _ _ _ _ _ _ _ _ _ _ _ _ _ _ _ (t .before .before .before .before .before .before .before .before .loop-test .taken) (t .trial .ensures .0) (p .before .marked .ensures) (p .put .ensures) (k .count .ensures) (c .before .before .before .go .ensures) (c .before .next .given .1) ∙ l .loop .inv .5,
+      omega (arith, test-of a .if1 .taken, n),
+      omega (arith, n, v .2),
+      omega (arith, n, v .3),
+      run-on _ _ _ _ _ _ _ _ _ _ (test-of a .if1 .taken) (a .advance .ensures .0) (c .before .going .given .1) ∙ v .4,
+      a .advance .ensures .1,
     )
 
-enum-known-ended : tie.Need-enum-known-ended Inv-loop μ-loop
-enum-known-ended c = search needs
-
-clear-requires : tie.Need-clear-requires Inv-loop μ-loop
-clear-requires c κs =
-    let t = trial-of (put-of (c .before .before .before .before .before)) in
-    let l = loop-of t in
-    omega (arith, t .trial .kept .1 .1 .1 .1 .1 .1 .1 .1 .1 .1 .1 .0, l .loop .inv .0 .scratch, start-of l .pre .1 .1 .1 .1 .1 .1)
+enum-known-going-2 : tie.Need-enum-known-going-2 Inv-loop μ-loop
+enum-known-going-2 c = search needs
 
 same-length : tie.Need-same-length Inv-loop μ-loop
 same-length c =
-    let t = trial-of (put-of (turn-of (c .before .before) .before)) in
-    t .trial .kept .1 .1 .1 .1 .1 .0 ∙ loop-of t .loop .inv .0 .heads
+    let a = advance-of (c .before .before .before) in
+    a .advance .kept .1 .1 .1 .1 .1 .1 .0 ∙ loop-of a .loop .inv .0 .heads
 
 same-length-2 : tie.Need-same-length-2 Inv-loop μ-loop
 same-length-2 c =
-    let t = trial-of (put-of (turn-of (c .before .before) .before)) in
-    t .trial .kept .1 .1 .1 .1 .1 .1 .0 ∙ loop-of t .loop .inv .0 .demands
+    let a = advance-of (c .before .before .before) in
+    a .advance .kept .1 .1 .1 .1 .1 .1 .1 .0 ∙ loop-of a .loop .inv .0 .demands
 
 same-length-3 : tie.Need-same-length-3 Inv-loop μ-loop
 same-length-3 c =
-    let t = trial-of (put-of (turn-of (c .before .before) .before)) in
-    t .trial .kept .1 .1 .1 .1 .1 .1 .1 .0 ∙ loop-of t .loop .inv .0 .drawn
+    let a = advance-of (c .before .before .before) in
+    a .advance .kept .1 .1 .1 .1 .1 .1 .1 .1 .0 ∙ loop-of a .loop .inv .0 .drawn
 
 same-length-4 : tie.Need-same-length-4 Inv-loop μ-loop
 same-length-4 c =
-    let t = trial-of (put-of (turn-of (c .before .before) .before)) in
-    t .trial .kept .1 .1 .1 .1 .1 .1 .1 .1 .0 ∙ loop-of t .loop .inv .0 .flows
+    let a = advance-of (c .before .before .before) in
+    a .advance .kept .1 .1 .1 .1 .1 .1 .1 .1 .1 .0 ∙ loop-of a .loop .inv .0 .flows
 
 same-length-5 : tie.Need-same-length-5 Inv-loop μ-loop
 same-length-5 c =
-    let t = trial-of (put-of (turn-of (c .before .before) .before)) in
-    t .trial .kept .1 .1 .1 .1 .1 .1 .1 .1 .1 .0 ∙ loop-of t .loop .inv .0 .statuses
+    let a = advance-of (c .before .before .before) in
+    a .advance .kept .1 .1 .1 .1 .1 .1 .1 .1 .1 .1 .0 ∙ loop-of a .loop .inv .0 .statuses
 
 same-length-6 : tie.Need-same-length-6 Inv-loop μ-loop
 same-length-6 c =
-    let t = trial-of (put-of (turn-of (c .before .before) .before)) in
-    t .trial .kept .1 .1 .1 .1 .1 .1 .1 .1 .1 .1 .0 ∙ loop-of t .loop .inv .0 .grounded
+    let a = advance-of (c .before .before .before) in
+    a .advance .kept .1 .1 .1 .1 .1 .1 .1 .1 .1 .1 .1 .0 ∙ loop-of a .loop .inv .0 .grounded
 
 same-length-7 : tie.Need-same-length-7 Inv-loop μ-loop
 same-length-7 c =
-    let p = put-of (turn-of (c .before .before) .before) in
-    p .put .kept .0 ∙ loop-of (trial-of p) .loop .inv .0 .entries
+    let a = advance-of (c .before .before .before) in
+    a .advance .kept .1 .1 .1 .1 .1 .1 .1 .1 .1 .1 .1 .1 .0 ∙ loop-of a .loop .inv .0 .entries
 
 same-length-8 : tie.Need-same-length-8 Inv-loop μ-loop
 same-length-8 c =
-    let w = c .before .before in
-    let t = trial-of (put-of (turn-of w .before)) in
-    w .clear .kept .1 .0 ∙ t .trial .kept .1 .1 .1 .1 .1 .1 .1 .1 .1 .1 .1 .0 ∙ loop-of t .loop .inv .0 .scratch
+    let a = advance-of (c .before .before .before) in
+    a .advance .kept .1 .1 .1 .1 .1 .1 .1 .1 .1 .1 .1 .1 .1 .0 ∙ loop-of a .loop .inv .0 .scratch ∙ clear-of (loop-of a) .clear .kept .1 .0
 
 returns : tie.Need-returns Inv-loop μ-loop
 returns c =
-    let w = c .before .before in
-    let g = turn-of w in
-    let k = g .before in
-    let p = put-of k in
-    let t = trial-of p in
-    let l = loop-of t in (
-      run-over _ _ _ _ _ _ _ _ _ _ _ _ _ _ _ _ (t .before .before .before .before .before .before .before .before .loop-test .taken) (t .trial .ensures .0) (p .before .marked .ensures) (p .put .ensures) (k .count .ensures) (g .go .ensures) (w .before .before .before .ended .given .1) ∙ l .loop .inv .5,
-      w .clear .ensures ∙ cleared-zeros 4096 _ (t .trial .kept .1 .1 .1 .1 .1 .1 .1 .1 .1 .1 .1 .0 ∙ l .loop .inv .0 .scratch ∙ start-of l .pre .1 .1 .1 .1 .1 .1),
-    )
-
-clear-requires-2 : tie.Need-clear-requires-2 Inv-loop μ-loop
-clear-requires-2 c κs =
-    let l = c .before .before in
-    omega (arith, l .loop .inv .0 .scratch, start-of l .pre .1 .1 .1 .1 .1 .1)
+    let a = advance-of (c .before .before .before) in
+    let l = loop-of a in
+    (run-over _ _ _ _ _ _ _ _ _ _ (test-of a .if1 .taken) (a .advance .ensures .0) (c .before .going2 .given .1) ∙ l .loop .inv .4, a .advance .ensures .1)
 
 same-length-9 : tie.Need-same-length-9 Inv-loop μ-loop
-same-length-9 c = c .before .before .before .before .before .loop .inv .0 .heads
+same-length-9 c = c .before .before .loop .inv .0 .heads
 
 same-length-10 : tie.Need-same-length-10 Inv-loop μ-loop
-same-length-10 c = c .before .before .before .before .before .loop .inv .0 .demands
+same-length-10 c = c .before .before .loop .inv .0 .demands
 
 same-length-11 : tie.Need-same-length-11 Inv-loop μ-loop
-same-length-11 c = c .before .before .before .before .before .loop .inv .0 .drawn
+same-length-11 c = c .before .before .loop .inv .0 .drawn
 
 same-length-12 : tie.Need-same-length-12 Inv-loop μ-loop
-same-length-12 c = c .before .before .before .before .before .loop .inv .0 .flows
+same-length-12 c = c .before .before .loop .inv .0 .flows
 
 same-length-13 : tie.Need-same-length-13 Inv-loop μ-loop
-same-length-13 c = c .before .before .before .before .before .loop .inv .0 .statuses
+same-length-13 c = c .before .before .loop .inv .0 .statuses
 
 same-length-14 : tie.Need-same-length-14 Inv-loop μ-loop
-same-length-14 c = c .before .before .before .before .before .loop .inv .0 .grounded
+same-length-14 c = c .before .before .loop .inv .0 .grounded
 
 same-length-15 : tie.Need-same-length-15 Inv-loop μ-loop
-same-length-15 c = c .before .before .before .before .before .loop .inv .0 .entries
+same-length-15 c = c .before .before .loop .inv .0 .entries
 
 same-length-16 : tie.Need-same-length-16 Inv-loop μ-loop
-same-length-16 c =
-    let w = c .before .before in
-    w .clear2 .kept .1 .0 ∙ w .before .before .before .loop .inv .0 .scratch
+same-length-16 c = let l = c .before .before in l .loop .inv .0 .scratch ∙ clear-of l .clear .kept .1 .0
 
 returns-2 : tie.Need-returns-2 Inv-loop μ-loop
-returns-2 c =
-    let w = c .before .before in
-    let l = w .before .before .before in (
-      run-limit _ _ _ _ _ _ _ _ _ (w .before .before .loop-test .left) ∙ l .loop .inv .5,
-      w .clear2 .ensures ∙ cleared-zeros 4096 _ (l .loop .inv .0 .scratch ∙ start-of l .pre .1 .1 .1 .1 .1 .1),
-    )
+returns-2 c = let l = c .before .before in (run-limit _ _ _ _ _ _ _ _ (c .if1 .left) ∙ l .loop .inv .4, l .loop .inv .5)
 
 pub run-trials-spec : {M : Type 1} → statement M
 run-trials-spec =
@@ -222,19 +195,14 @@ run-trials-spec =
     (tie.spec
     Inv-loop
     μ-loop
+    clear-requires
     damping-start-requires
     loop-holds
-    trial-requires
-    marked-requires
-    put-requires
-    count-requires
-    add-i
-    go-requires
-    enum-known-next
+    advance-requires
+    enum-known-going
     loop-less
     loop-again
-    enum-known-ended
-    clear-requires
+    enum-known-going-2
     same-length
     same-length-2
     same-length-3
@@ -244,7 +212,6 @@ run-trials-spec =
     same-length-7
     same-length-8
     returns
-    clear-requires-2
     same-length-9
     same-length-10
     same-length-11

@@ -3,56 +3,71 @@ use native.Mathlib.Omega.{arith}
 use mathlib.Core.Path.{_≡_, ap, _∙_}
 use mathlib.Core.List.{List}
 use borrow.Author.Needs.{needs}
+use mathlib.Core.Bool.{false}
+use lib.ListN.{replicate}
 use lib.Ieee.{Float}
-use Rattle.columns.specs.Columns.{zeros}
+use Rattle.state.specs.State.{State, state}
 use Rattle.trial.specs.Trial.{repairOf}
 use Rattle.answers.specs.Answers.{Solved, lent}
-use Rattle.solver.proofs.Laws.{network-of, start-of, solved-of}
+use Rattle.starts.proofs.Laws.{Full, full, start-full}
+use Rattle.solver.proofs.Laws.{network-of, solved-of}
 use Rattle.solver.proofs.solved.Statement.{statement}
 use Rattle.solver.proofs.solved.Tie as tie
 
 -- the places, each from the one after it
-abbrev begin-of : tie.After-start-nodes → tie.Start
-begin-of j = j .before .before .before .before .before .before .before .before .before .before
+abbrev begin-of : tie.After-start-columns → tie.Start
+begin-of s = s .before .before .before .before .before .before .before .before .before .before .before .before .before
 
-abbrev nodes-of : tie.After-start-links → tie.After-start-nodes
-nodes-of k = k .before .before .before .before .before
-
-abbrev links-of : tie.After-run → tie.After-start-links
-links-of r = r .before .before .before .before .before .before .before .before .before .before .before
+abbrev columns-of : tie.After-run → tie.After-start-columns
+columns-of r = r .before .before .before .before .before .before .before .before .before
 
 abbrev run-of : tie.After-conclude → tie.After-run
 run-of o = o .before .before .before .before .before .before .before .before .before .before .before .before .before .before .before .before .before .before .before .before .before
 
-start-nodes-requires : tie.Need-start-nodes-requires
-start-nodes-requires c κs = let net = network-of _ _ (c .before .before .before .before .before .before .before .before .before .pre .0) in (net .laid, omega (arith, net .nodes))
+-- the first columns are as long as they were made
+abbrev first-of : tie.After-start-columns → State
+first-of s = let w = s .start-columns .last .1 .1 in state (w .0) (w .1 .0) (w .1 .1 .0) (w .1 .1 .1 .0) (w .1 .1 .1 .1 .0) (replicate 64 false)
 
-start-links-requires : tie.Need-start-links-requires
-start-links-requires c κs = let net = network-of _ _ (begin-of (c .before .before .before .before) .pre .0) in (net .laid, omega (arith, net .links))
+full-of : (s : tie.After-start-columns) → Full (first-of s)
+full-of s = full (first-of s) _ (s .start-columns .ensures) (start-full _ _)
+
+start-columns-requires : tie.Need-start-columns-requires
+start-columns-requires c κs = let net = network-of _ _ (c .before .before .before .before .before .before .before .before .before .before .before .before .pre .0) in (net .laid, (net .nodes, net .links))
+
+slice-aggregate-run : tie.Need-slice-aggregate-run
+slice-aggregate-run c = omega (arith, full-of (c .before))
+
+slice-aggregate-run-2 : tie.Need-slice-aggregate-run-2
+slice-aggregate-run-2 c = omega (arith, full-of (c .before .before))
+
+slice-aggregate-run-3 : tie.Need-slice-aggregate-run-3
+slice-aggregate-run-3 c = omega (arith, full-of (c .before .before .before))
+
+slice-aggregate-run-4 : tie.Need-slice-aggregate-run-4
+slice-aggregate-run-4 c = omega (arith, full-of (c .before .before .before .before))
+
+slice-aggregate-run-5 : tie.Need-slice-aggregate-run-5
+slice-aggregate-run-5 c = omega (arith, full-of (c .before .before .before .before .before))
 
 run-requires : tie.Need-run-requires
-unfolding zeros
 run-requires c κs =
-    let k = c .before .before .before .before .before .before .before .before .before .before in
-    let j = nodes-of k in
-    let start = begin-of j in
-    let v = start .args in
+    let s = c .before .before .before .before .before .before .before .before in
+    let start = begin-of s in
     let net = network-of _ _ (start .pre .0) in
-    let kept = j .start-nodes .kept in
-    let kept' = k .start-links .kept in
+    let k = full-of s in
     let e = start .pre .1 .1 in (
       start .pre .0,
       (
         start .pre .1 .0,
         (
-          start-of (v .sheet .now) (v .l) _ _ _ _ (j .start-nodes .ensures .0) (j .start-nodes .ensures .1) (k .start-links .ensures .0) (k .start-links .ensures .1),
+          s .start-columns .ensures,
           (
             record {
-              heads = omega (arith, net .nodes, kept);
-              demands = omega (arith, net .nodes, kept);
-              drawn = omega (arith, net .nodes, kept);
-              flows = omega (arith, net .links, kept');
-              statuses = omega (arith, net .links, kept');
+              heads = omega (arith, net .nodes, k .heads);
+              demands = omega (arith, net .nodes, k .demands);
+              drawn = omega (arith, net .nodes, k .drawn);
+              flows = omega (arith, net .links, k .flows);
+              statuses = omega (arith, net .links, k .statuses);
               grounded = omega (arith, net .nodes);
             },
             (e .entries, e .scratch),
@@ -64,25 +79,23 @@ run-requires c κs =
 conclude-requires : tie.Need-conclude-requires
 conclude-requires c κs =
     let r = c .before .before .before .before .before .before .before .before .before .before .before .before .before .before .before .before .before .before .before .before in
-    let k = links-of r in
-    let j = nodes-of k in
-    let start = begin-of j in
+    let s = columns-of r in
+    let start = begin-of s in
     let net = network-of _ _ (start .pre .0) in
     let e = start .pre .1 .1 in
     let u = r .run .kept .1 .1 .1 in
-    let kept = j .start-nodes .kept in
-    let kept' = k .start-links .kept in (
+    let k = full-of s in (
       net .laid,
       (
         net .ends,
         (
           (e .heads, e .demands, e .flows, e .statuses),
           (
-            omega (arith, net .nodes, u .0, kept),
-            omega (arith, net .nodes, u .1 .0, kept),
-            omega (arith, net .nodes, u .1 .1 .0, kept),
-            omega (arith, net .links, u .1 .1 .1 .0, kept'),
-            omega (arith, net .links, u .1 .1 .1 .1 .0, kept'),
+            omega (arith, net .nodes, u .0, k .heads),
+            omega (arith, net .nodes, u .1 .0, k .demands),
+            omega (arith, net .nodes, u .1 .1 .0, k .drawn),
+            omega (arith, net .links, u .1 .1 .1 .0, k .flows),
+            omega (arith, net .links, u .1 .1 .1 .1 .0, k .statuses),
           ),
         ),
       ),
@@ -92,7 +105,7 @@ returns : tie.Need-returns
 returns c =
     let o = c .before .before .before .before .before .before .before .before in
     let r = run-of o in
-    let start = begin-of (nodes-of (links-of r)) in
+    let start = begin-of (columns-of r) in
     let a = start .args in
     let w = o .conclude .last .1 .1 .1 .1 .1 .1 .1 .1 .1 .1 in
     let z = r .run .last .1 .1 .1 .1 .1 .1 .1 .1 in
@@ -109,17 +122,12 @@ pub solved-spec : {M : Type 1} → statement M
 solved-spec =
     tie.close
     (tie.spec
-    (λ c. search needs)
-    (λ c. search needs)
-    start-nodes-requires
-    (λ c. search needs)
-    (λ c. search needs)
-    start-links-requires
-    (λ c. search needs)
-    (λ c. search needs)
-    (λ c. search needs)
-    (λ c. search needs)
-    (λ c. search needs)
+    start-columns-requires
+    slice-aggregate-run
+    slice-aggregate-run-2
+    slice-aggregate-run-3
+    slice-aggregate-run-4
+    slice-aggregate-run-5
     (λ c. search needs)
     run-requires
     (λ c. search needs)

@@ -9,6 +9,7 @@ use Rattle.drawing.proofs.Laws.{counting-long}
 use borrow.Author.Needs.{needs}
 use Rattle.numbering.proofs.Numbers.{at-most}
 use Rattle.columns.specs.Columns.{zeros}
+use Rattle.columns.proofs.Laws.{zeros-long}
 use Rattle.assembly.specs.Assembly.{System, system}
 use Rattle.state.specs.State.{State, state}
 use Rattle.trial.specs.Trial.{outcome, repairOf, systemOf, factorsOf}
@@ -29,6 +30,10 @@ excess-of a = a .before .before .before .before .before .before .before .before 
 abbrev assemble-of : tie.After-factor → tie.After-assemble
 assemble-of f = f .before .before .before .before .before .before .before
 
+-- the scratch has room for the matrix
+all-long : {x : List Float} → x ≡ zeros 4096 → length x ≡ 4096
+all-long h = ap length h ∙ zeros-long 4096
+
 -- the state before the trial, the system that was assembled, and that it is the state's
 module _ (a : tie.After-assemble) where
   abbrev start : tie.Start
@@ -40,10 +45,13 @@ module _ (a : tie.After-assemble) where
   abbrev filled : System
   filled = let x = a .assemble .last .1 .1 .1 .1 .1 .1 .1 .1 .1 .1 .1 in system (x .0) (x .1 .0) (x .1 .1 .0) (x .1 .1 .1 .0)
 
+  long : length (start .args .scratch .now) ≡ 4096
+  long = all-long (start .pre .1 .1 .1 .1)
+
   assembled : filled ≡ systemOf (start .args .sheet .now) (start .args .l) was
   unfolding zeros
   assembled =
-      system-of (start .args .sheet .now) (start .args .l) was (start .args .scratch .now) _ (excess-of a .excess-flows .last .1 .1 .1 .1 .0) (filled .matrix) (filled .rhs) (filled .g) (filled .y) (start .pre .1 .1 .1 .1) (counts-of (excess-of a) .counts .ensures) (excess-of a .excess-flows .ensures) (a .assemble .ensures)
+      system-of (start .args .sheet .now) (start .args .l) was (start .args .scratch .now) _ (excess-of a .excess-flows .last .1 .1 .1 .1 .0) (filled .matrix) (filled .rhs) (filled .g) (filled .y) (long) (counts-of (excess-of a) .counts .ensures) (excess-of a .excess-flows .ensures) (a .assemble .ensures)
 
   -- the matrix has room for the unknowns
   few : start .args .l .unknowns ≤ 64
@@ -76,13 +84,13 @@ assemble-requires c κs =
         rows = s .pre .1 .0 .1;
       },
       (
-        record { matrix = s .pre .1 .1 .1 .1; rhs = omega arith; g = omega (arith, net .links); y = omega (arith, net .links) },
-        ((room .demands, (room .drawn, room .grounded)), s .pre .1 .1 .0),
+        record { matrix = all-long (s .pre .1 .1 .1 .1); rhs = omega arith; g = omega (arith, net .links); y = omega (arith, net .links) },
+        (s .pre .1 .1 .1 .1, ((room .demands, (room .drawn, room .grounded)), s .pre .1 .1 .0)),
       ),
     )
 
 factor-requires : tie.Need-factor-requires
-factor-requires c κs = let a = c .before .before .before .before .before .before in omega (arith, few a, start a .pre .1 .1 .1 .1, a .assemble .kept)
+factor-requires c κs = let a = c .before .before .before .before .before .before in omega (arith, few a, long a, a .assemble .kept)
 
 node-of-requires : tie.Need-node-of-requires
 node-of-requires c κs = let s = start (assemble-of (c .before .before .before .before .before)) in s .pre .1 .0
@@ -99,7 +107,7 @@ substitute-requires : tie.Need-substitute-requires
 substitute-requires c κs =
     let f = c .before .before .before .before .before .before in
     let a = assemble-of f in
-    omega (arith, few a, start a .pre .1 .1 .1 .1, a .assemble .kept, f .factor .kept)
+    omega (arith, few a, long a, a .assemble .kept, f .factor .kept)
 
 step-requires : tie.Need-step-requires
 step-requires c κs =

@@ -1,0 +1,13 @@
+-- `held::damping_in` meets its contract. Assumes nothing.
+use mathlib.Core.Path.{refl}
+use borrow.Author.Needs.{needs}
+use Rattle.held.specs.Held.{dampingIn}
+use Rattle.held.proofs.damping_in.Statement.{statement}
+use Rattle.held.proofs.damping_in.Tie as tie
+
+returns : tie.Need-returns
+unfolding dampingIn
+returns c = refl
+
+pub damping-in-spec : {M : Type 1} → statement M
+damping-in-spec = tie.close (tie.spec (λ c. search needs) (λ c. search needs) returns)

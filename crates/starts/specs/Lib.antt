@@ -1,0 +1,2 @@
+-- The specs of `starts`.
+pub mod Start

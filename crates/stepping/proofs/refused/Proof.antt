@@ -1,0 +1,11 @@
+-- `stepping::refused` meets its contract. Assumes nothing.
+use borrow.Author.Needs.{needs}
+use mathlib.Core.Path.{_≡_}
+use Rattle.stepping.proofs.refused.Statement.{statement}
+use Rattle.stepping.proofs.refused.Tie as tie
+
+returns : tie.Need-returns
+returns c = rw (c .failed .ensures)
+
+pub refused-spec : {M : Type 1} → statement M
+refused-spec = tie.close (tie.spec (λ c κs. search needs) returns)

@@ -1,0 +1,2 @@
+-- The specs of `stepping`.
+pub mod Taking

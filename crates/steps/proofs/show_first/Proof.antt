@@ -1,0 +1,25 @@
+-- `steps::show_first` is safe. Assumes nothing.
+use borrow.Author.Needs.{needs}
+use native.Mathlib.Omega.{arith}
+use lib.ListN.{length-take}
+use Rattle.steps.proofs.show_first.Statement.{statement}
+use Rattle.steps.proofs.show_first.Tie as tie
+
+refuse-requires : tie.Need-refuse-requires
+refuse-requires c κs = search needs
+
+returns : tie.Need-returns
+returns c = search needs
+
+slice-aggregate-show : tie.Need-slice-aggregate-show
+slice-aggregate-show c = simp length-take (omega arith)
+
+show-requires : tie.Need-show-requires
+show-requires c κs = search needs
+
+returns-2 : tie.Need-returns-2
+returns-2 c = search needs
+
+pub show-first-spec : {M : Type 1} → statement M
+show-first-spec =
+    tie.close (tie.spec refuse-requires returns slice-aggregate-show show-requires returns-2)

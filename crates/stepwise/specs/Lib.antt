@@ -1,0 +1,2 @@
+-- The specs of `stepwise`.
+pub mod Stepwise

@@ -1,0 +1,2 @@
+-- The specs of `turns`.
+pub mod Turns
