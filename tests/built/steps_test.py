@@ -5,9 +5,9 @@ import sys
 import unittest
 
 ROOT = os.path.dirname(os.path.dirname(os.path.dirname(os.path.abspath(__file__))))
-sys.path.insert(0, os.path.join(ROOT, "tools"))
+sys.path[:0] = [ROOT]
 
-import programs  # noqa: E402
+from coordinator import programs  # noqa: E402
 
 
 def stored(name):
