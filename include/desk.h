@@ -129,7 +129,9 @@ void desk_verdict(const uint8_t *sheet, size_t sheet_length,
    Changed: on 2 nothing, neither the state nor a buffer; it is not the answer, and the next trial goes on as if that
    call had not been. On 0 the state, 4 bytes of the record, and the first 4,096 numbers of scratch, which are +0.0.
    On 1 these, and where the number is 0 the four results, as desk_solve leaves them. Once the answer was told every
-   trial tells it again, whatever the sheet and the buffers, and nothing changes. The start refuses with 1 to 4. */
+   trial tells it again, whatever the sheet and the buffers, and nothing changes. The start refuses with 1 to 4 and
+   leaves the state as it was: take no trial after that, since a state whose counts do not begin with 0 is taken for
+   one that has its answer. */
 typedef struct desk_state {
     double heads[64], demands[64], drawn[64], flows[128];
     double sums[5];     /* damping factor, previous change, total demand, total supply, error */
