@@ -44,7 +44,14 @@ class Vectors(unittest.TestCase):
         self.assertTrue(all(n >= 50 for n in counts.values()), counts)
         fields = {int(l.split()[1], 16) >> 52 for l in lines if l.startswith("root ")}
         self.assertGreaterEqual(len(fields), 1000)
-        self.assertGreaterEqual(len(read("crates/power_vectors/stdout").splitlines()), 1000)
+        powers = read("crates/power_vectors/stdout").decode().split()
+        self.assertGreaterEqual(len(powers), 4000)
+        for x, by_852, by_871, raised in zip(powers[::4], powers[1::4], powers[2::4], powers[3::4]):
+            d = as_float(int(x, 16))
+            if 1e-15 < d < 1e15:  # far from exact, but of the right power
+                self.assertAlmostEqual(as_float(int(by_852, 16)) / d ** 0.852, 1, delta=1e-7)
+                self.assertAlmostEqual(as_float(int(by_871, 16)) / d ** 0.871, 1, delta=1e-7)
+                self.assertAlmostEqual(as_float(int(raised, 16)) / d ** 4.871, 1, delta=1e-7)
 
 
 class Arithmetic(unittest.TestCase):
@@ -111,11 +118,17 @@ class Tables(unittest.TestCase):
     def numbers(self, name):
         return [int(h, 16) for h in re.findall(r"^ +0x([0-9a-f]{16})\b", read(name).decode(), re.M)]
 
-    def test_code_and_definition(self):
-        both = power_tables.table_a() + power_tables.table_b()
+    def held(self, exponent, code, definition):
+        both = power_tables.table_a(*exponent) + power_tables.table_b(*exponent)
         self.assertEqual(len(both), 1025 + 128)
-        self.assertEqual(self.numbers("crates/tables/src/tables.rt"), both)
-        self.assertEqual(self.numbers("crates/tables/specs/Tables.antt"), both)
+        self.assertEqual(self.numbers(code), both)
+        self.assertEqual(self.numbers(definition), both)
+
+    def test_code_and_definition(self):
+        self.held((213, 250), "crates/tables/src/tables.rt", "crates/tables/specs/Tables.antt")
+
+    def test_code_and_definition_871(self):
+        self.held((871, 1000), "crates/tables/src/tables_871.rt", "crates/tables/specs/Tables871.antt")
 
 
 if __name__ == "__main__":

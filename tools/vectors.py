@@ -104,8 +104,14 @@ def power_vectors():
         yield rng.getrandbits(64)
 
 
+def power_answer(p, tables_852, tables_871):
+    """The line of a pattern: x, x^0.852, x^0.871, and x^4 times x^0.871."""
+    x, high = exact.canonical(p), power(p, *tables_871)
+    return "%016x %016x %016x %016x" % (x, power(p, *tables_852), high, exact.mul(exact.whole_power(x, 4), high))
+
+
 def power(p, a, b):
-    """Document 01, item 2, on a pattern."""
+    """Document 01, item 2, on a pattern, with the tables of an exponent."""
     p = exact.canonical(p)
     if p == NAN or p > SIGN:
         return NAN
@@ -124,7 +130,7 @@ def power(p, a, b):
 def files():
     """Each file's path below the repository, and its bytes."""
     floats = list(float_vectors())
-    a, b = table_a(), table_b()
+    tables = [(table_a(*exponent), table_b(*exponent)) for exponent in ((213, 250), (871, 1000))]
     powers = list(power_vectors())
     # a whole power's exponent is the first byte of the second number
     record = lambda name, x, y, z: struct.pack("<BQQQ", FUNCTIONS.index(name), x, y, z)
@@ -133,7 +139,7 @@ def files():
         "crates/float_vectors/stdin": b"".join(record(*v) for v in floats),
         "crates/float_vectors/stdout": lines(float_answer(*v) for v in floats),
         "crates/power_vectors/stdin": b"".join(struct.pack("<Q", p) for p in powers),
-        "crates/power_vectors/stdout": lines("%016x %016x" % (exact.canonical(p), power(p, a, b)) for p in powers),
+        "crates/power_vectors/stdout": lines(power_answer(p, *tables) for p in powers),
     }
 
 

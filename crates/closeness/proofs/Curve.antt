@@ -11,7 +11,8 @@ use lib.Pow.{pow-add}
 use lib.ListN.{getD}
 use Rattle.nearest.proofs.Units.{mul-pow}
 use Rattle.tables.specs.Tables.{tableA}
-use Rattle.tables.proofs.Test.{four, low-middle, betweenA}
+use Rattle.tables.proofs.Test.{four, low-middle}
+use Rattle.closeness.proofs.Entries.{above-a}
 use Rattle.closeness.proofs.Means.{mean}
 use Rattle.closeness.proofs.Chord.{mediant, from-above, from-below}
 use Rattle.closeness.proofs.Tests.{alpha, Tangent, at-left, at-right}
@@ -96,7 +97,7 @@ less b = go (eqb (four b) (2 ^ 54))
     go false = omega arith
 
 entry : (i : ℕ) → i < 1025 → (4 * alpha (getD tableA i 0) - 2) ^ 250 < (1024 + i) ^ 213 * 2 ^ 11370
-entry i h = lt-of-le-of-lt (pow-le-pow-left (less (getD tableA i 0)) 250) (betweenA i h .above)
+entry i h = lt-of-le-of-lt (pow-le-pow-left (less (getD tableA i 0)) 250) (above-a i h)
 
 -- ---- a step
 module _ (i n u w : ℕ) (index : i < 1024) (whole : u + n ≡ 2 ^ 42) (place : w ≡ (1024 + i) * 2 ^ 42 + n) where

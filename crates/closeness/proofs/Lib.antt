@@ -1,5 +1,6 @@
 pub mod Means
 pub mod Chord
+pub mod Entries
 pub mod Tests
 pub mod Curve
 pub mod Rounding

@@ -14,11 +14,10 @@ use lib.Ieee.Scale.{grid, round-val}
 use Rattle.nearest.specs.Nearest.{units}
 use Rattle.nearest.proofs.Units.{units-to}
 use Rattle.nearest.proofs.Values.{value}
-use Rattle.tables.specs.Tables.{tableA, tableB}
-use Rattle.tables.specs.Entries.{entryA, entryB}
-use Rattle.tables.proofs.Test.{fieldA, fieldB}
+use Rattle.tables.specs.Tables.{tableA, tableB, powerTable}
 use Rattle.power.specs.Power.{part, between}
 use Rattle.power.proofs.Part.{exact}
+use Rattle.closeness.proofs.Entries.{entryA, entryB, fieldA, fieldB, interpolated}
 use Rattle.closeness.proofs.Tests.{alpha, up, little}
 use Rattle.closeness.proofs.Rounding.{Near, Rounded, grid-near, near-cancel, near-more, units-rounded, not-twice, half-at-least}
 use Rattle.closeness.proofs.Values.{rescale, mul-of, add-of, sub-of}
@@ -174,8 +173,7 @@ module _ (i n : ℕ) (index : i < 1024) (rest : n < 2 ^ 42) where
         less : (g : ℕ) → g < 1077 → g ≤ 1077
         less g h = omega arith
 
-    pub result : HasValue (between i n j) false r (2 ^ 1074)
-    unfolding between
+    pub result : HasValue (between powerTable i n j) false r (2 ^ 1074)
     result =
-        subst (λ (y : Float). HasValue y false r (2 ^ 1074)) (sym (mul-of binary64 total (entryB j) v (2 ^ 1074) b (2 ^ 1074) (pow-pos 1074) (pow-pos 1074) total-value b-value))
+        subst (λ (y : Float). HasValue y false r (2 ^ 1074)) (sym (interpolated i n j index ∙ mul-of binary64 total (entryB j) v (2 ^ 1074) b (2 ^ 1074) (pow-pos 1074) (pow-pos 1074) total-value b-value))
         (round-val binary64 (v * b) (2 ^ 2148) r-under)

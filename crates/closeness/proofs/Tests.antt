@@ -9,8 +9,8 @@ use lib.Dec.{T, leb, ltb, leb→le, ltb→lt}
 use lib.ListN.{getD}
 use Rattle.nearest.proofs.Units.{mul-pow}
 use Rattle.tables.specs.Tables.{tableA, tableB}
-use Rattle.tables.proofs.Test.{aimB}
 use Rattle.tables.proofs.Table.{every, at, every-of, pick, upto, below}
+use Rattle.closeness.proofs.Entries.{aimB}
 
 -- the significand of an entry
 abbrev pub alpha : ℕ → ℕ

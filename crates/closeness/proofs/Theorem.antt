@@ -9,11 +9,12 @@ use lib.Dec.{lit≤}
 use lib.ListN.{getD}
 use lib.Ieee.{Float, binary64, toBits}
 use lib.Ieee.Exact.{HasValue}
-use Rattle.tables.specs.Tables.{tableA, tableB}
-use Rattle.tables.proofs.Test.{four, high-middle, betweenB, fieldB}
+use Rattle.tables.specs.Tables.{tableA, tableB, powerTable}
+use Rattle.tables.proofs.Test.{four, high-middle}
 use Rattle.power.specs.Power.{powerOf, between}
 use Rattle.power.proofs.Parts.{split, power-of}
 use Rattle.closeness.specs.Close.{Argument, AtMost, unit, Within, Close, Closer, Called}
+use Rattle.closeness.proofs.Entries.{fieldB, below-b}
 use Rattle.closeness.proofs.Tests.{alpha, up, not-far-above}
 use Rattle.closeness.proofs.Curve
 use Rattle.closeness.proofs.Bounds.{LeftAbove, LeftBelow, upper, lower}
@@ -90,7 +91,7 @@ module _ (i n f : ℕ) (index : i < 1024) (rest : n < 2 ^ 42) (low : 959 ≤ f) 
 
   b-below : 2 ^ o ≤ (4 * beta + 2) ^ 250
   unfolding high-middle four
-  b-below = le-of-lt (betweenB j place .below)
+  b-below = le-of-lt (below-b j place)
 
   above : (k h : ℕ) → LeftAbove k h → AtMost (r ^ 250) (unit ^ 250) (h ^ 250 * (w * 2 ^ (f - 1)) ^ 213) (k ^ 250 * unit ^ 213)
   above k h left =
@@ -109,7 +110,7 @@ module _ (i n f : ℕ) (index : i < 1024) (rest : n < 2 ^ 42) (low : 959 ≤ f) 
       curve-below
       b-below
 
-  by-parts : (x : Float) (p q : ℕ) → HasValue x false (w * 2 ^ (f - 1)) unit → LeftBelow (2 ^ p - 1) (2 ^ p) → LeftAbove (2 ^ q) (2 ^ q + 1) → Within p q x (between i n j)
+  by-parts : (x : Float) (p q : ℕ) → HasValue x false (w * 2 ^ (f - 1)) unit → LeftBelow (2 ^ p - 1) (2 ^ p) → LeftAbove (2 ^ q) (2 ^ q + 1) → Within p q x (between powerTable i n j)
   by-parts x p q v l h =
       record {
         of = w * 2 ^ (f - 1);
@@ -122,6 +123,7 @@ module _ (i n f : ℕ) (index : i < 1024) (rest : n < 2 ^ 42) (low : 959 ≤ f) 
 
 -- ---- every argument, by its pattern
 within : (x : Float) → Argument x → (p q : ℕ) → LeftBelow (2 ^ p - 1) (2 ^ p) → LeftAbove (2 ^ q) (2 ^ q + 1) → Within p q x (powerOf x)
+unfolding powerOf
 within x c p q l h =
     let b = toBits binary64 x in
     let i = b / 2 ^ 42 % 1024 in
@@ -129,7 +131,7 @@ within x c p q l h =
     let f = b / 2 ^ 52 in
     let at = inside x (c .from-least) (c .below-limit) in
     let e : 2 ^ 52 + b % 2 ^ 52 ≡ (1024 + i) * 2 ^ 42 + n = omega arith in
-    subst (λ (y : Float). Within p q x y) (sym (power-of x (c .held) (at .low) (at .high)))
+    subst (λ (y : Float). Within p q x y) (sym (power-of x (c .held) (at .low) (at .high) powerTable))
     (by-parts i n f (omega arith) (omega arith) (omega (arith, at)) (omega (arith, at)) x p q
     (subst (λ (k : ℕ). HasValue x false (k * 2 ^ (f - 1)) unit) e (split x (c .held) (at .low) (at .high) .value))
     l h)

@@ -1,6 +1,7 @@
 -- What the code takes from the bits of x, from 2 ^ -64 up to but not including 2 ^ 64, are the m, e, i and t of document 01. Assumes nothing.
 use mathlib.Core.Path.{_≡_, ap, _∙_, subst}
 use mathlib.Core.Bool.{false}
+use mathlib.Core.List.{List}
 use Prim.Native.Nat.{ℕ, _+_, _-_, _*_, _/_, _%_, _^_, _≤_, _<_}
 use native.Mathlib.Omega.{arith}
 use lib.Dec.{T}
@@ -9,7 +10,7 @@ use lib.Ieee.Exact.{HasValue}
 use Rattle.nearest.specs.Nearest.{units}
 use Rattle.nearest.proofs.Units.{units-to}
 use Rattle.nearest.proofs.Values.{plain, number}
-use Rattle.power.specs.Power.{powerOf, between}
+use Rattle.power.specs.Power.{powerBy, between}
 use Rattle.power.specs.Parts.{Split, Steps}
 use Rattle.power.proofs.Part.{exact}
 use Rattle.power.proofs.Cases.{middle}
@@ -51,6 +52,6 @@ module _ (x : Float) (held : T (fits binary64 x)) (low : 959 * 2 ^ 52 ≤ toBits
       }
 
   -- and the power is the one that these give
-  pub power-of : powerOf x ≡ between (p / 2 ^ 42 % 1024) (p % 2 ^ 42) (1086 - f)
-  unfolding powerOf
-  power-of = simp (plain x (omega arith)) (middle p low high)
+  pub power-of : (t : List ℕ) → powerBy t x ≡ between t (p / 2 ^ 42 % 1024) (p % 2 ^ 42) (1086 - f)
+  unfolding powerBy
+  power-of t = simp (plain x (omega arith)) (middle t p low high)

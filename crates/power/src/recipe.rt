@@ -1,8 +1,11 @@
-// x^0.852 from the bits of x and the lent table.
+// A power of x from the bits of x and the lent table of its exponent.
 ghost use mathlib.Core.Path.{_≡_};
 ghost use Prim.Native.Nat.{_-_, _*_, _/_, _^_, _≤_, _<_};
-ghost use Rattle.power.specs.Power.{powerOf};
+ghost use lib.Dec.{T};
+ghost use Rattle.power.specs.Power.{powerBy, powerOf, power871};
+ghost use Rattle.tables.specs.Entries.{nanFree};
 ghost use Rattle.tables.specs.Tables.{powerTable};
+ghost use Rattle.tables.specs.Tables871.{powerTable871};
 use tables::entry_a;
 use tables::entry_b;
 
@@ -15,10 +18,10 @@ fn place(p: u64) -> usize
     (-e + 63) as usize
 }
 
-// x^0.852, for every f64: 0 below 2^-64, infinity from 2^64, NaN for NaN and below zero.
-pub fn power(x: f64, table: &[u64; 1153]) -> f64
-    requires { ⌜ now table ≡ powerTable ⌝ }
-    ensures { λ r. ⌜ r ≡ powerOf x ⌝ }
+// The power of x, for every f64: 0 below 2^-64, infinity from 2^64, NaN for NaN and below zero.
+fn power_by(x: f64, table: &[u64; 1153]) -> f64
+    requires { ⌜ T (nanFree (now table)) ⌝ }
+    ensures { λ r. ⌜ r ≡ powerBy (now (table .entry)) x ⌝ }
 {
     if x != x {
         return x;
@@ -43,4 +46,20 @@ pub fn power(x: f64, table: &[u64; 1153]) -> f64
     let high = entry_a(table, i + 1);
     let t = (p % 0x400_0000_0000) as f64 * 2.2737367544323206e-13;
     (low + t * (high - low)) * entry_b(table, place(p))
+}
+
+// x^0.852.
+pub fn power(x: f64, table: &[u64; 1153]) -> f64
+    requires { ⌜ now table ≡ powerTable ⌝ }
+    ensures { λ r. ⌜ r ≡ powerOf x ⌝ }
+{
+    power_by(x, table)
+}
+
+// x^0.871.
+pub fn power_871(x: f64, table: &[u64; 1153]) -> f64
+    requires { ⌜ now table ≡ powerTable871 ⌝ }
+    ensures { λ r. ⌜ r ≡ power871 x ⌝ }
+{
+    power_by(x, table)
 }

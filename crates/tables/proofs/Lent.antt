@@ -1,20 +1,13 @@
--- An entry of the lent table is the entry of A or B. Assumes nothing.
-use mathlib.Core.Path.{_≡_, refl, ap, _∙_}
-use mathlib.Core.List.{List}
+-- An entry of the lent table is the entry of A or of B. Assumes nothing.
+use mathlib.Core.Path.{_≡_}
+use mathlib.Core.List.{List, _++_}
 use Prim.Native.Nat.{ℕ, _+_, _<_}
 use lib.ListN.{length, getD, List·getD-append}
 use lib.Seq.{getD-append-add}
-use Rattle.tables.specs.Tables.{tableA, tableB, powerTable}
 
-length-a : length tableA ≡ 1025
-unfolding tableA
-length-a = refl
+module _ (ta tb : List ℕ) (length-a : length ta ≡ 1025) where
+  pub in-a : (i : ℕ) → i < 1025 → getD (ta ++ tb) i 0 ≡ getD ta i 0
+  in-a i h = List·getD-append ta tb 0 i (rw length-a h)
 
-module _ {t : List ℕ} (is : t ≡ powerTable) where
-  pub in-a : (i : ℕ) → i < 1025 → getD t i 0 ≡ getD tableA i 0
-  unfolding powerTable
-  in-a i h = ap (λ (l : List ℕ). getD l i 0) is ∙ List·getD-append tableA tableB 0 i (rw length-a h)
-
-  pub in-b : (j : ℕ) → getD t (1025 + j) 0 ≡ getD tableB j 0
-  unfolding powerTable
-  in-b j = ap (λ (l : List ℕ). getD l (1025 + j) 0) is ∙ (rw length-a at (getD-append-add tableA tableB j 0))
+  pub in-b : (j : ℕ) → getD (ta ++ tb) (1025 + j) 0 ≡ getD tb j 0
+  in-b j = rw length-a at (getD-append-add ta tb j 0)

@@ -1,5 +1,8 @@
 pub mod Table
+pub mod Rounded
 pub mod Test
-pub mod Lent
 pub mod Middles
+pub mod Lent
 pub mod Entries
+pub mod NanFree
+pub mod Exponents

@@ -3,7 +3,8 @@
 // lends them down as one table: a function that indexes a const copies the whole of it at each call.
 ghost use mathlib.Core.Path.{_≡_};
 ghost use Prim.Native.Nat.{_<_};
-ghost use Rattle.tables.specs.Entries.{entryA, entryB};
+ghost use lib.Dec.{T};
+ghost use Rattle.tables.specs.Entries.{entryA, entryB, nanFree};
 ghost use Rattle.tables.specs.Tables.{powerTable};
 
 const TABLE: [u64; 1153] = [
@@ -1170,18 +1171,18 @@ pub fn power_table() -> [u64; 1153]
     TABLE
 }
 
-// Entry i of A in a lent table.
+// Entry i of A in a lent table, of whichever exponent.
 pub fn entry_a(t: &[u64; 1153], i: usize) -> f64
-    requires { ⌜ (now t ≡ powerTable) × (i < 1025) ⌝ }
-    ensures { λ r. ⌜ r ≡ entryA i ⌝ }
+    requires { ⌜ T (nanFree (now t)) × (i < 1025) ⌝ }
+    ensures { λ r. ⌜ r ≡ entryA (now (t .entry)) i ⌝ }
 {
     f64::from_bits(t[i])
 }
 
 // Entry j of B, which follows A.
 pub fn entry_b(t: &[u64; 1153], j: usize) -> f64
-    requires { ⌜ (now t ≡ powerTable) × (j < 128) ⌝ }
-    ensures { λ r. ⌜ r ≡ entryB j ⌝ }
+    requires { ⌜ T (nanFree (now t)) × (j < 128) ⌝ }
+    ensures { λ r. ⌜ r ≡ entryB (now (t .entry)) j ⌝ }
 {
     f64::from_bits(t[1025 + j])
 }
