@@ -1,4 +1,4 @@
-"""The vectors of crates float, roots and power, and the arithmetic that their answers come from."""
+"""The vectors of crates float, roots, power and decimals, and the arithmetic that their answers come from."""
 import glob
 import math
 import os
@@ -52,6 +52,9 @@ class Vectors(unittest.TestCase):
                 self.assertAlmostEqual(as_float(int(by_852, 16)) / d ** 0.852, 1, delta=1e-7)
                 self.assertAlmostEqual(as_float(int(by_871, 16)) / d ** 0.871, 1, delta=1e-7)
                 self.assertAlmostEqual(as_float(int(raised, 16)) / d ** 4.871, 1, delta=1e-7)
+        numbers = read("crates/decimal_vectors/stdout").decode().splitlines()
+        self.assertGreaterEqual(len(numbers), 1000)
+        self.assertEqual(numbers.count(""), 3)
 
 
 class Arithmetic(unittest.TestCase):

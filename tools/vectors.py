@@ -1,7 +1,8 @@
 #!/usr/bin/env python3
-"""Vectors for crates float, roots and power, with answers from whole numbers (exact.py, power_tables.py).
+"""Vectors for crates float, roots, power and decimals, with answers from whole numbers (exact.py, power_tables.py).
 
-  vectors.py     writes stdin and stdout of crates float_vectors and power_vectors
+  vectors.py     writes stdin and stdout of crates float_vectors, power_vectors
+                 and decimal_vectors
 """
 import random
 import struct
@@ -127,11 +128,68 @@ def power(p, a, b):
     return exact.mul(exact.add(a[i], step), b[63 - e])
 
 
+MOST_DIGITS, MOST_PLACES, MOST_TENS = 17, 37, 20
+
+
+def halfway(rng):
+    """A decimal that is the middle of two f64s, as digits and a power of ten: its odd part has 54 digits in base 2."""
+    middle = rng.getrandbits(54) | 1 << 53 | 1
+    tens = rng.randrange(-1, 21)
+    if tens < 0:
+        return middle * 5, tens
+    digits = middle // 5 ** tens
+    return (digits | 1) << rng.randrange(0, max(1, (10 ** MOST_DIGITS // (digits | 1)).bit_length() - 1)), tens
+
+
+def beside_halfway(rng):
+    """One that is as near to such a middle as 17 digits can be, or next to that."""
+    tens = rng.randrange(-MOST_PLACES, MOST_TENS + 1)
+    den = 10 ** -tens if tens < 0 else 1
+    num = rng.randrange(10 ** 16, 10 ** 17) * (10 ** tens if tens > 0 else 1)
+    p = exact.rounded(0, num << 1074, den)
+    doubled = exact.magnitude(p) + exact.magnitude(p + 1)  # twice the middle, in units of 2^-1074
+    digits = doubled * den // ((1 << 1075) * (10 ** tens if tens > 0 else 1)) + rng.randrange(-1, 3)
+    return min(digits, 10 ** MOST_DIGITS - 1), tens
+
+
+def decimals(rng, count):
+    """Digits, at most 17, and a power of ten from -37 to 20; every fifth is a middle of two f64s or lies beside one."""
+    for i in range(count):
+        if i % 10 == 0:
+            yield halfway(rng)
+        elif i % 10 == 5:
+            yield beside_halfway(rng)
+        else:
+            written = rng.randrange(1, MOST_DIGITS + 1)
+            yield rng.randrange(10 ** written), rng.randrange(-20, MOST_TENS + 1) - rng.choice((0, rng.randrange(written + 1)))
+
+
+def decimal_vectors():
+    rng = random.Random(3)
+    for tens in (-37, -36, -22, -20, -17, -1, 0, 1, 16, 19, 20):
+        for digits in (0, 1, 3, 5, 9, 85, 10 ** 16, 10 ** 17 - 1, (1 << 53) - 1, (1 << 53) + 1, (1 << 53) + 3, (1 << 54) + 2, (1 << 54) + 6):
+            yield digits, tens
+    yield from ((10 ** 17, 0), (1, 21), (1, -38))  # out of range
+    yield from decimals(rng, 1200)
+
+
+def decimal_record(digits, tens):
+    return struct.pack("<QBB", digits, tens < 0, abs(tens))
+
+
+def decimal_answer(digits, tens):
+    """The line of a record: empty where it is out of range."""
+    if digits >= 10 ** MOST_DIGITS or not -MOST_PLACES <= tens <= MOST_TENS:
+        return ""
+    return "%016x" % exact.rounded(0, digits * 10 ** max(tens, 0) << 1074, 10 ** max(-tens, 0))
+
+
 def files():
     """Each file's path below the repository, and its bytes."""
     floats = list(float_vectors())
     tables = [(table_a(*exponent), table_b(*exponent)) for exponent in ((213, 250), (871, 1000))]
     powers = list(power_vectors())
+    numbers = list(decimal_vectors())
     # a whole power's exponent is the first byte of the second number
     record = lambda name, x, y, z: struct.pack("<BQQQ", FUNCTIONS.index(name), x, y, z)
     lines = lambda rows: "".join(r + "\n" for r in rows).encode()
@@ -140,6 +198,8 @@ def files():
         "crates/float_vectors/stdout": lines(float_answer(*v) for v in floats),
         "crates/power_vectors/stdin": b"".join(struct.pack("<Q", p) for p in powers),
         "crates/power_vectors/stdout": lines(power_answer(p, *tables) for p in powers),
+        "crates/decimal_vectors/stdin": b"".join(decimal_record(*v) for v in numbers),
+        "crates/decimal_vectors/stdout": lines(decimal_answer(*v) for v in numbers),
     }
 
 
