@@ -1,4 +1,4 @@
-"""The vectors of crates float, roots, power and decimals, and the arithmetic that their answers come from."""
+"""The vectors of crates float, roots, power, decimals and of words, and the arithmetic that their answers come from."""
 import glob
 import math
 import os
@@ -55,6 +55,15 @@ class Vectors(unittest.TestCase):
         numbers = read("crates/decimal_vectors/stdout").decode().splitlines()
         self.assertGreaterEqual(len(numbers), 1000)
         self.assertEqual(numbers.count(""), 3)
+
+    def test_words(self):
+        said = read("crates/word_vectors/stdout").split()
+        words = [word for line in read("crates/word_vectors/stdin").split(b"\n") for word in line.rstrip(b"\r").split(b";")[0].split()]
+        self.assertEqual(len(words), len(said))
+        good = [(word, bits) for word, bits in zip(words, said) if bits != b"-"]
+        self.assertGreater(len(good), 500)
+        self.assertGreater(len(words) - len(good), 200)
+        self.assertEqual([pair for pair in good if as_bits(float(pair[0])) != int(pair[1], 16)], [])
 
 
 class Arithmetic(unittest.TestCase):

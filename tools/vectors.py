@@ -1,10 +1,11 @@
 #!/usr/bin/env python3
-"""Vectors for crates float, roots, power and decimals, with answers from whole numbers (exact.py, power_tables.py).
+"""Vectors for crates float, roots, power, decimals and the words of a text, with answers from whole numbers (exact.py, power_tables.py).
 
-  vectors.py     writes stdin and stdout of crates float_vectors, power_vectors
-                 and decimal_vectors
+  vectors.py     writes stdin and stdout of crates float_vectors, power_vectors,
+                 decimal_vectors and word_vectors
 """
 import random
+import re
 import struct
 
 import exact
@@ -184,12 +185,62 @@ def decimal_answer(digits, tens):
     return "%016x" % exact.rounded(0, digits * 10 ** max(tens, 0) << 1074, 10 ** max(-tens, 0))
 
 
+def spelled_words(rng):
+    """Words that spell numbers, and words that nearly do."""
+    yield from "0 -0 +0 00 1. .5 -.5 +3 -7 1e5 1E5 1e+5 1e-5 12.50 0.001 1e20 1e-20 1e021 1E-0020".split()
+    yield from "99999999999999999 9.9999999999999999 00000000000000001 0.0000000000000001 12345678901234567e-20".split()
+    yield from ". + - e E5 e5 1e 1e+ 1e- 1e21 1e-21 1e100 1e99999999999999999999999 1.2.3 1..2 --1 +-1 1-2 1,5 0x10 inf nan".split()
+    yield from "1e5.0 1e5e5 100000000000000000 0.00000000000000000 000000000000000001 1f -e5 -.e5 .e5 5.e5 5.E-5 \u00bd 1\u0663 1d5 \x7f".split()
+    for digits, tens in decimals(rng, 700):
+        text = str(digits).zfill(rng.randrange(1, 18))
+        point = rng.randrange(len(text) + 1)
+        written = text[:point] + rng.choice((".", "." if point < len(text) else "")) + text[point:]
+        behind = len(text) - point if "." in written else 0
+        exponent = tens + behind
+        mark = rng.choice("eE") + rng.choice(("", "+")) if exponent >= 0 else rng.choice("eE")
+        yield rng.choice(("", "-", "+")) + written + (mark + str(exponent) if exponent or rng.random() < 0.3 else "")
+    for _ in range(300):  # whatever comes
+        yield "".join(rng.choice("0123456789.eE+-5x") for _ in range(rng.randrange(1, 12)))
+
+
+def word_text():
+    """A text of such words: lines of none to nine, with spaces, tabs, comments, carriage returns and no last newline."""
+    rng = random.Random(4)
+    words, text = list(spelled_words(rng)), ""
+    while words:
+        line = "".join(words.pop(0) + rng.choice((" ", "\t", "  ", " \t ")) for _ in range(min(rng.randrange(10), len(words))))
+        text += rng.choice(("", " ", "\t")) + line + rng.choice(("", "; 12 13", ";", "")) + rng.choice(("\n", "\r\n"))
+    return (text + "1 2;3\r").encode()
+
+
+SPELLED = re.compile(rb"([+-]?)([0-9]*)\.?([0-9]*)(?:[eE]([+-]?[0-9]+))?")
+
+
+def word_answer(word):
+    """A word's pattern by whole numbers, or a dash."""
+    found = SPELLED.fullmatch(word)
+    if not found:
+        return b"-"
+    sign, whole, part, exponent = found.groups()
+    if not 1 <= len(whole + part) <= MOST_DIGITS or abs(int(exponent or 0)) > MOST_TENS:
+        return b"-"
+    tens = int(exponent or 0) - len(part)
+    p = exact.rounded(0, int(whole + part) * 10 ** max(tens, 0) << 1074, 10 ** max(-tens, 0))
+    return b"%016x" % (p | SIGN if sign == b"-" else p)
+
+
+def word_lines(text):
+    for line in text.split(b"\n"):
+        line = (line[:-1] if line.endswith(b"\r") else line).split(b";")[0]
+        yield b"".join(word_answer(word) + b" " for word in re.split(rb"[ \t]+", line) if word) + b"\n"
+
+
 def files():
     """Each file's path below the repository, and its bytes."""
     floats = list(float_vectors())
     tables = [(table_a(*exponent), table_b(*exponent)) for exponent in ((213, 250), (871, 1000))]
     powers = list(power_vectors())
-    numbers = list(decimal_vectors())
+    numbers, words = list(decimal_vectors()), word_text()
     # a whole power's exponent is the first byte of the second number
     record = lambda name, x, y, z: struct.pack("<BQQQ", FUNCTIONS.index(name), x, y, z)
     lines = lambda rows: "".join(r + "\n" for r in rows).encode()
@@ -200,6 +251,8 @@ def files():
         "crates/power_vectors/stdout": lines(power_answer(p, *tables) for p in powers),
         "crates/decimal_vectors/stdin": b"".join(decimal_record(*v) for v in numbers),
         "crates/decimal_vectors/stdout": lines(decimal_answer(*v) for v in numbers),
+        "crates/word_vectors/stdin": words,
+        "crates/word_vectors/stdout": b"".join(word_lines(words)),
     }
 
 

@@ -1,0 +1,4 @@
+pub mod Turns
+pub mod Signs
+pub mod Parts
+pub mod Examples

@@ -1,0 +1,27 @@
+-- `link_lines::by_number` meets its contract. Assumes nothing.
+use borrow.Author.Needs.{needs}
+use Rattle.spelled.specs.Texts.{bytesOf}
+use Rattle.link_lines.specs.Links.{byNumber}
+use Rattle.link_lines.proofs.by_number.Statement.{statement}
+use Rattle.link_lines.proofs.by_number.Tie as tie
+
+returns : tie.Need-returns
+unfolding byNumber bytesOf
+returns c = rw (c .before .before .before .before .before .before .before .before .before .is-keyword .ensures, c .before .before .before .before .before .before .before .is-keyword2 .ensures, c .before .before .before .before .before .is-keyword3 .ensures, c .before .before .before .is-keyword4 .ensures, c .before .is-keyword5 .ensures, c .is-number .ensures)
+
+pub by-number-spec : {M : Type 1} → statement M
+by-number-spec =
+    tie.close
+    (tie.spec
+    (λ c. search needs)
+    (λ c κs. search needs)
+    (λ c. search needs)
+    (λ c κs. search needs)
+    (λ c. search needs)
+    (λ c κs. search needs)
+    (λ c. search needs)
+    (λ c κs. search needs)
+    (λ c. search needs)
+    (λ c κs. search needs)
+    (λ c κs. search needs)
+    returns)

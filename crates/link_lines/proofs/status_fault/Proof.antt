@@ -1,0 +1,21 @@
+-- `link_lines::status_fault` meets its contract. Assumes nothing.
+use mathlib.Core.Path.{_∙_}
+use borrow.Author.Needs.{needs}
+use Rattle.link_lines.specs.Links.{statusFault}
+use Rattle.link_lines.proofs.status_fault.Statement.{statement}
+use Rattle.link_lines.proofs.status_fault.Tie as tie
+
+returns : tie.Need-returns
+unfolding statusFault
+returns c = c .fault .ensures ∙ rw (c .before .before .before .before .has-word .ensures, c .before .before .before .has-word2 .ensures, c .before .before .is-name .ensures, c .before .status-good .ensures)
+
+pub status-fault-spec : {M : Type 1} → statement M
+status-fault-spec =
+    tie.close
+    (tie.spec
+    (λ c κs. search needs)
+    (λ c κs. search needs)
+    (λ c κs. search needs)
+    (λ c κs. search needs)
+    (λ c κs. search needs)
+    returns)

@@ -1,0 +1,23 @@
+-- `node_lines::junction_fault` meets its contract. Assumes nothing.
+use mathlib.Core.Path.{_∙_}
+use borrow.Author.Needs.{needs}
+use Rattle.node_lines.specs.Nodes.{junctionFault}
+use Rattle.node_lines.proofs.junction_fault.Statement.{statement}
+use Rattle.node_lines.proofs.junction_fault.Tie as tie
+
+returns : tie.Need-returns
+unfolding junctionFault
+returns c = c .fault .ensures ∙ rw (c .before .before .before .before .before .before .has-word .ensures, c .before .before .before .before .before .has-word2 .ensures, c .before .before .before .before .is-name .ensures, c .before .before .before .is-number .ensures, c .before .before .is-number-or-none .ensures, c .before .has-word3 .ensures)
+
+pub junction-fault-spec : {M : Type 1} → statement M
+junction-fault-spec =
+    tie.close
+    (tie.spec
+    (λ c κs. search needs)
+    (λ c κs. search needs)
+    (λ c κs. search needs)
+    (λ c κs. search needs)
+    (λ c κs. search needs)
+    (λ c κs. search needs)
+    (λ c κs. search needs)
+    returns)

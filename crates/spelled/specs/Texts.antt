@@ -1,0 +1,9 @@
+-- A text as its bytes, so that definitions can name keywords as they are written. Definitions only.
+use Prim.Native.Nat.{ℕ}
+use Prim.Native.Char.{code}
+use Prim.Native.String.{String, [], _∷_}
+use mathlib.Core.List.{List, [] as none, _∷_ as _then_}
+
+unfoldable pub bytesOf : String → List ℕ
+bytesOf [] = none
+bytesOf (c ∷ s) = code c then bytesOf s
