@@ -44,6 +44,8 @@ class Answer:
         self.hydrants = self.find_hydrants() if self.solved and self.pd else {}
         self.low = verdict.low_nodes(self) if self.solved else []
         self.notes = notes.notes(self)
+        # the nodes that were asked for, or None where all of it is told
+        self.at = None
 
     def find_undetermined(self):
         """The verdict says whether there are any, save where it is about a repair."""
@@ -123,18 +125,22 @@ class Answer:
         return "the %s at link %d (%s) was freed%s" % (
             LINK_KINDS[link["kind"]], number, ends(link), "" if times == 1 else " %d times" % times)
 
+    def grounded_words(self, number):
+        return "%s was tied to a reservoir that is not there" % self.called(number)
+
     def repair_words(self):
         repairs = [self.freed_words(i) for i in self.freed]
-        repairs += ["%s was tied to a reservoir that is not there" % self.called(i) for i in self.grounded]
+        repairs += [self.grounded_words(i) for i in self.grounded]
         count = self.listing.freed + self.listing.grounded
         return ["with %s: %s" % ("a repair" if count == 1 else counted(count, "repair"), listed(repairs))
                 ] if repairs else []
 
     def undetermined_words(self):
-        if not self.undetermined:
-            return []
-        return ["nothing determines the head%s of %s" % (
-            "" if len(self.undetermined) == 1 else "s", numbered("node", self.undetermined, self.names))]
+        return [self.nothing_determines(self.undetermined)] if self.undetermined else []
+
+    def nothing_determines(self, nodes):
+        return "nothing determines the head%s of %s" % (
+            "" if len(nodes) == 1 else "s", numbered("node", nodes, self.names))
 
     def short_words(self):
         # drawn flows that do not fit say nothing about who gets less

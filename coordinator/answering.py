@@ -1,7 +1,8 @@
 """Answers every file that the desk was asked about, one after the other, whatever becomes of the others."""
 import os
 
-from . import as_json, bookings, evening, evening_out, files, pages, pictures, schemes, sheet_bounds, unsettled
+from . import (as_json, bookings, evening, evening_out, files, pages, pictures, schemes, sheet_bounds, touching,
+               unsettled)
 from .answer import BAD_USE, Answer, gravest
 from .asking import NotToBeHad
 from .files import BadUse
@@ -40,6 +41,8 @@ class Round:
         answer = Answer(given.name, given.data, reply, self.limits, given.path is None, given.names)
         if answer.listing.number == unsettled.USED_UP:
             answer.refusal.why += unsettled.words(answer, self.ask(unsettled.coarser(given.data), self.limits))
+        if answer.solved and self.options.at:
+            answer.at = touching.asked(answer, self.options.at)
         return answer
 
     def answer_or_why(self, name):

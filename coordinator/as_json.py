@@ -1,7 +1,7 @@
 """An answer for a program; docs/DESK.md says what each key holds."""
 import json
 
-from . import causes, notes
+from . import causes, notes, touching
 from .answer import Answer, entry_words
 from .network import HOLDS, in_service
 from .sheet_format import LINK_KINDS, NODE_KINDS, STATUSES, bits
@@ -96,6 +96,21 @@ def results(answer):
     }
 
 
+def touch_keys(answer, touch):
+    found = {"link": touch.link, "starts_here": touch.starts_here, "other": touch.other,
+             "other_name": answer.nodes[touch.other].get("name"), "set_to": touching.set_to(answer, touch.link),
+             "freed_in": touching.trials_of(answer, "VF", touch.link)}
+    found.update(numbers(inflow_cfs=touch.inflow, inflow=touch.inflow * answer.units.per_cfs))
+    return found
+
+
+def at_node(answer, i):
+    """What `--at` asks of a node; the rest stands in `nodes` and `links` under its number."""
+    return {"node": i, "name": answer.nodes[i].get("name"), "grounded_in": touching.trials_of(answer, "GN", i),
+            "doubts": list(touching.doubts(answer, i)),
+            "touching": [touch_keys(answer, touch) for touch in touching.touches(answer, i)]}
+
+
 def answer_keys(answer):
     found = {
         "sheet": answer.name, "first_line": answer.first_line(), "exit_status": answer.exit_status,
@@ -111,6 +126,7 @@ def answer_keys(answer):
     }
     found.update(results(answer) if answer.solved else {})
     found.update(giving_way(answer) if answer.solved and answer.pd else {})
+    found.update({} if answer.at is None else {"at": [at_node(answer, i) for i in answer.at]})
     return found
 
 

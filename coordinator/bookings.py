@@ -6,6 +6,7 @@ import math
 from collections import namedtuple
 
 from .network import JUNCTION
+from .schemes import numbers_of
 from .sheet_bounds import LIMIT
 from .sheet_format import NODE_KINDS
 from .sheet_text import FLOW, PRESSURE, Mistake, figure, parted
@@ -42,11 +43,7 @@ class Scheme:
     """The nodes that bookings speak of."""
 
     def __init__(self, nodes, names):
-        self.nodes = nodes
-        self.numbers = {name: i for i, name in enumerate(names or ())}
-        if not names:
-            # a sheet has no names: its nodes go by their numbers, or as --text calls them
-            self.numbers = {word: i for i in range(len(nodes)) for word in (str(i), "n%d" % i)}
+        self.nodes, self.numbers = nodes, numbers_of(len(nodes), names)
 
     def node(self, name):
         if name not in self.numbers:

@@ -24,6 +24,7 @@ examples:
   desk scheme.txt                              a page
   desk --least 10m --plot out.svg scheme.txt   no hydrant below 10 m; a picture besides
   desk --json *.sheet                          one JSON list
+  desk --at ridge scheme.txt                   what touches the node ridge
   desk --bookings week.csv scheme.txt          yes or no for every hour
   desk --sheet scheme.txt -o scheme.sheet      the text form as a sheet
   desk --text scheme.sheet                     and back
@@ -31,8 +32,8 @@ examples:
 exit status:
   0  every sheet was solved, and the proved verdict is that its pressures may be sold
   1  a sheet was refused by the solver; that is an answer, and the first line says why
-  2  bad use: wrong arguments, a file that cannot be read, written or is empty, a text with mistakes, no program to
-     ask, an interruption, standard output that takes no more
+  2  bad use: wrong arguments, a file that cannot be read, written or is empty, a text with mistakes, a node that a
+     scheme does not have, no program to ask, an interruption, standard output that takes no more
   3  a sheet was solved, but its pressures must not be sold on; the first line says why
   of several sheets the gravest counts: 2, then 3, then 1
 
@@ -44,6 +45,13 @@ class Parser(argparse.ArgumentParser):
     def error(self, message):
         # it quotes the arguments, which may hold anything
         super().error(quoted(message, 300))
+
+
+def node(text):
+    """The word that asks for a node; no name has a space in it."""
+    if not text.strip():
+        raise argparse.ArgumentTypeError("the name or the number of a node is expected")
+    return text.strip()
 
 
 def parser():
@@ -58,6 +66,8 @@ def parser():
                    "have, as 10m, 15psi or 33ft; 0 if not given")
     p.add_argument("--within", metavar="TOLERANCES", type=limits.within, default={}, help="how far heads and "
                    "flows may be from what the laws say, as 0.1ft,0.001cfs (so it is if not given) or one of the two")
+    p.add_argument("--at", metavar="NODE", type=node, action="append", help="instead of the tables: a node, by its name or "
+                   "by the number that the tables show, and every link that touches it; may be given several times")
     p.add_argument("--bookings", metavar="FILE.csv", help="answer each hour of a table of bookings: hour, hydrant, flow and, "
                    "if wanted, least (BOOKINGS.md)")
     p.add_argument("--explain", action="store_true", help="print the sheets' records with their byte offsets")
@@ -75,7 +85,8 @@ def limits_of(options):
 
 def check(p, options):
     """Ends with a message where the arguments do not go together."""
-    asks = options.json or options.plot or options.least is not None or options.within or options.bookings is not None
+    asks = (options.json or options.plot or options.least is not None or options.within or options.at
+            or options.bookings is not None)
     if options.sheet is not None or options.text is not None:
         if options.sheet is not None and options.out is None:
             p.error("--sheet needs -o FILE.sheet")
@@ -89,6 +100,8 @@ def check(p, options):
         p.error("--explain goes alone")
     elif options.bookings is not None and (len(options.files) != 1 or options.bookings == options.files[0] == "-"):
         p.error("--bookings goes with one scheme")
+    elif options.bookings is not None and options.at:
+        p.error("--at and --bookings do not go together")
     elif options.plot is not None and not options.plot.endswith(".svg"):
         # else `--plot a.sheet b.sheet` would write over a sheet
         p.error("--plot writes a file whose name ends in .svg")

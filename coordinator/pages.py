@@ -1,11 +1,12 @@
 """An answer for a person."""
-from . import causes, notes
+from . import causes, notes, touching
 from .answer import record_words
 from .drawn import pressure_range
 from .files import shown
 from .network import in_service, serves
 from .sheet_format import LINK_KINDS, NODE_KINDS, STATUSES
-from .words import NAME, fixed, flow_figure, flow_words, pressure_words, quoted, small_flow
+from .words import (NAME, fixed, flow_figure, flow_words, heads_words, numbered, pressure_words, quoted,
+                    small_flow)
 
 
 def table(header, rows):
@@ -19,9 +20,15 @@ def table(header, rows):
         yield "  " + line.rstrip()
 
 
-def node_marks(answer, number):
+def filled(header, rows):
+    """A table without the columns in which nothing stands."""
+    kept = [k for k in range(len(header)) if any(row[k] for row in rows)]
+    return table([header[k] for k in kept], [[row[k] for k in kept] for row in rows])
+
+
+def node_marks(answer, number, grounded="grounded"):
     node = answer.nodes[number]
-    marks = [("grounded", number in answer.grounded),
+    marks = [(grounded, number in answer.grounded),
              ("head undetermined", number in answer.undetermined),
              ("pressure below 0", serves(node) and answer.pressure(number) < 0),
              ("pressure too low", number in answer.low and answer.pressure(number) >= 0),
@@ -89,11 +96,11 @@ def last_change(answer, number):
     return causes.mark(answer.links, found[-1]) + (", and a tank shut it after that" if shut else "")
 
 
-def link_marks(answer, number):
+def link_marks(answer, number, freed="freed"):
     link = answer.links[number]
     was = link["status"]
     marks = [("changed, was " + STATUSES[was], was != answer.listing.statuses[number]),
-             ("freed", number in answer.freed),
+             (freed, number in answer.freed),
              ("carries water", notes.carries(answer, number)),
              ("check valve holds", notes.check_holds(answer, number)),
              (short_mark(answer, number), notes.lack(answer, number)),
@@ -135,6 +142,54 @@ def record(answer):
         yield "  %s: %s" % (trials, words)
 
 
+def in_trials(answer, word, mark, number):
+    """`freed in trial 1`."""
+    return "%s in %s" % (word, numbered("trial", touching.trials_of(answer, mark, number)))
+
+
+def water_words(answer, number):
+    """What a node asks and draws."""
+    units, hydrant = answer.units, answer.hydrants.get(number)
+    if hydrant is None:
+        word = "drawn" if answer.pd and not notes.not_served(answer, number) else "demand"
+        return "%s %s" % (word, flow_words(units, answer.listing.demands[number]))
+    found = ["asked " + flow_words(units, hydrant.asked), "drawn " + flow_words(units, hydrant.drawn)]
+    found += ["lacks " + flow_words(units, hydrant.lack)] if hydrant.lack else []
+    return ", ".join(found + ([] if hydrant.fits else [unfit_mark(answer, hydrant)]))
+
+
+def way_words(answer, node, touch):
+    """Which way the water runs, seen from a node: `into ridge from mill`; nothing where the figure is 0."""
+    if not flow_figure(answer.units, touch.inflow).strip("0."):
+        return ""
+    here, other = (quoted(answer.names[i], NAME) if answer.names else "node %d" % i for i in (node, touch.other))
+    return ("into %s from %s" if touch.inflow > 0 else "out of %s to %s") % (here, other)
+
+
+def touch_row(answer, node, touch):
+    return [str(touch.link), LINK_KINDS[answer.links[touch.link]["kind"]], "starts" if touch.starts_here else "ends",
+            answer.called(touch.other), flow_figure(answer.units, abs(touch.inflow)), way_words(answer, node, touch),
+            STATUSES[answer.listing.statuses[touch.link]], touching.set_to(answer, touch.link) or "",
+            link_marks(answer, touch.link, in_trials(answer, "freed", "VF", touch.link))]
+
+
+def at_node(answer, number):
+    """A node and what touches it."""
+    marks = node_marks(answer, number, in_trials(answer, "grounded", "GN", number))
+    yield "  elevation %s, head %s, pressure %s, %s%s" % (
+        heads_words(answer.units, answer.nodes[number]["elevation"]), heads_words(answer.units, answer.listing.heads[number]),
+        pressure_words(answer.units, answer.pressure(number)), water_words(answer, number), marks and "; " + marks)
+    found = touching.touches(answer, number)
+    yield from ("  doubt   " + words for words in touching.doubts(answer, number))
+    yield from ("  note    " + note.words for note in answer.notes
+                if note.node == number or note.link in [touch.link for touch in found])
+    if not found:
+        yield "  no link touches it"
+        return
+    header = ["link", "<kind", "<here", "<other end", "flow " + answer.units.flow_name, "<", "<status", "<setting", "<"]
+    yield from filled(header, [touch_row(answer, number, touch) for touch in found])
+
+
 def section(name, lines):
     lines = list(lines)
     return ["", name] + lines if lines else []
@@ -149,8 +204,14 @@ def refused(answer):
 
 
 def solved(answer):
-    return (([] if answer.mend is None else ["  mend    " + answer.mend])
-            + ["  note    " + note.words for note in answer.notes]
+    mend = [] if answer.mend is None else ["  mend    " + answer.mend]
+    if answer.at is None:
+        return mend + whole(answer)
+    return mend + [line for number in answer.at for line in section("At " + answer.node(number), at_node(answer, number))]
+
+
+def whole(answer):
+    return (["  note    " + note.words for note in answer.notes]
             + section("Nodes", nodes(answer))
             + section("Hydrants", hydrants(answer))
             + (section("Links", links(answer)) if answer.links else [])
@@ -159,6 +220,6 @@ def solved(answer):
 
 
 def page(answer, named):
-    """Everything about one sheet; its name before the first line where there are several."""
+    """Everything about one sheet, or about the nodes asked for; its name before the first line where there are several."""
     first = ("%s: " % shown(answer.name) if named else "") + answer.first_line()
     return "\n".join([first] + (solved if answer.solved else refused)(answer)) + "\n"

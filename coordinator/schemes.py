@@ -25,6 +25,14 @@ class Given:
         self.name, self.data, self.names, self.path = name, data, names, path
 
 
+def numbers_of(count, names):
+    """The number of each node by what it goes by: its name; in a sheet, which has none, its number, or as --text calls
+    it."""
+    if names:
+        return {name: i for i, name in enumerate(names)}
+    return {word: i for i in range(count) for word in (str(i), "n%d" % i)}
+
+
 def looks_like_text(data):
     """No sheet does: the upper byte of its trials is 0."""
     return all(byte in b"\t\n\r\f" or byte >= 32 for byte in data[:64])

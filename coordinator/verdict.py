@@ -52,13 +52,17 @@ def low_nodes(answer):
             if serves(node) and not answer.pressure(i) >= lowest_allowed(answer, i)]
 
 
-def too_low(answer, node):
+def low(answer, node):
     pressure, lowest = answer.pressure(node), lowest_allowed(answer, node)
     digits = apart(*(feet * answer.units.per_foot for feet in (pressure, lowest)))
-    more = len([i for i in low_nodes(answer) if i != node])
-    return "%s has %s, the lowest allowed is %s%s" % (
+    return "%s has %s, the lowest allowed is %s" % (
         answer.called(node, "hydrant" if is_hydrant(answer.nodes[node]) else "node"),
-        pressure_words(answer.units, pressure, digits), pressure_words(answer.units, lowest, digits),
+        pressure_words(answer.units, pressure, digits), pressure_words(answer.units, lowest, digits))
+
+
+def too_low(answer, node):
+    more = len([i for i in low_nodes(answer) if i != node])
+    return low(answer, node) + (
         "" if not more else ", and %s too low" % (counted(more, "more node") + (" is" if more == 1 else " are")))
 
 

@@ -6,7 +6,7 @@
    buffers and a state of its own (several may lend the same sheet).
 
    Stack that a call needs below its caller's frame, whatever the sheet: 20 KiB for desk_solve, 32 KiB for
-   desk_verdict (17,327 and 28,591 bytes at most were measured on x86-64). A thread needs some KiB more for
+   desk_verdict (19,903 and 31,135 bytes at most were measured on x86-64). A thread needs some KiB more for
    itself: lend it 64 KiB. */
 #ifndef DESK_H
 #define DESK_H

@@ -139,6 +139,48 @@ class Texts(unittest.TestCase):
         self.assertEqual((status, out.splitlines()[0]), (1, "refused, number 1 at place 0: the file is text and not a sheet"))
 
 
+class At(unittest.TestCase):
+    """What touches a node."""
+
+    def test_the_ridge_by_name_and_by_number(self):
+        by_name, by_number = (desk("--at", word, "examples/dry-week/giving-way.txt") for word in ("ridge", "4"))
+        self.assertEqual(by_name, by_number)
+        status, out = by_name
+        self.assertEqual((status, out.splitlines()[2:]), (0, [
+            "At node 4 (junction ridge)",
+            "  elevation 31.00 m, head 41.63 m, pressure 10.63 m, asked 7.00 LPS, drawn 3.32 LPS, lacks 3.68 LPS",
+            "  link  kind  here  other end      flow LPS                        status",
+            "     3  pipe  ends  node 3 (mill)      3.32  into ridge from mill  Open"]))
+
+    def test_a_lowest_pressure(self):
+        status, out = desk("--at", "slope", "--least", "15m", "examples/dry-week/giving-way.txt")
+        self.assertEqual(status, 3)
+        self.assertIn("\n  doubt   hydrant 5 (slope) has 14.24 m, the lowest allowed is 15.00 m\n", out)
+
+    def test_a_grounded_node_without_links(self):
+        status, out = desk("--at", "1", example("document01"))
+        self.assertEqual(status, 3)
+        self.assertIn("; grounded in trial 1, head undetermined, ", out)
+        self.assertTrue(out.endswith("\n  no link touches it\n"), out)
+
+    def test_what_comes_to_a_junction_is_what_it_draws(self):
+        every = [part for i in range(64) for part in ("--at", str(i))]
+        for name in ("looped", "night", "june-unrepaired", "dry-week/fixed-demands", "dry-week/giving-way"):
+            (whole,) = json.loads(desk("--json", example(name))[1])
+            (found,) = json.loads(desk("--json", *every[:2 * len(whole["nodes"])], example(name))[1])
+            self.assertEqual([one["node"] for one in found["at"]], list(range(len(whole["nodes"]))))
+            for one, node in zip(found["at"], whole["nodes"]):
+                if node["kind"] == "junction":
+                    brought = sum(touch["inflow_cfs"] for touch in one["touching"])
+                    self.assertAlmostEqual(brought, node["demand_cfs"], delta=0.001, msg=name)
+
+    def test_an_unknown_node(self):
+        status, out = desk("--json", "--at", "ridge", example("looped"), "examples/dry-week/fixed-demands.txt")
+        without, found = json.loads(out)
+        self.assertEqual((status, found["at"][0]["name"]), (2, "ridge"))
+        self.assertIn("looped.sheet: no node is called ridge; ", without["error"])
+
+
 class Bookings(unittest.TestCase):
     TABLE = "examples/evening/bookings.csv"
 

@@ -5,6 +5,7 @@ ghost use lib.ListN.{length};
 ghost use Rattle.power.specs.Tables.{powerTable};
 ghost use Rattle.columns.specs.Columns.{zeros};
 ghost use Rattle.numbering.specs.Numbering.{RowsRight};
+ghost use Rattle.links_at.specs.LinksAt.{LinksAt};
 ghost use Rattle.state.specs.Network.{Network};
 ghost use Rattle.state.specs.State.{state};
 ghost use Rattle.trial.specs.Trial.{Room, repairOf};
@@ -38,6 +39,8 @@ pub fn advance(
     sheet: &[u8],
     l: Layout,
     unknowns: &[usize],
+    places: &[usize],
+    listed: &[usize],
     table: &[u64; 1153],
     d: Damping,
     tally: Tally,
@@ -51,6 +54,7 @@ pub fn advance(
     scratch: &mut [f64],
 ) -> Turn
     requires { ⌜ Network l (now sheet) ⌝ }
+    requires { ⌜ LinksAt l (now sheet) (now places) (now listed) ⌝ }
     requires { ⌜ (l .nodes ≤ length (now unknowns)) × (RowsRight l (now sheet) (now unknowns)) ⌝ }
     requires { ⌜ now table ≡ powerTable ⌝ }
     requires { ⌜ Room l (state (now heads) (now demands) (now drawn) (now flows) (now statuses) (now grounded)) ⌝ }
@@ -63,6 +67,8 @@ pub fn advance(
         sheet,
         l,
         unknowns,
+        places,
+        listed,
         table,
         d,
         heads,
@@ -87,6 +93,8 @@ pub fn run_trials(
     l: Layout,
     trials: usize,
     unknowns: &[usize],
+    places: &[usize],
+    listed: &[usize],
     table: &[u64; 1153],
     heads: &mut [f64],
     demands: &mut [f64],
@@ -98,6 +106,7 @@ pub fn run_trials(
     scratch: &mut [f64],
 ) -> Ran
     requires { ⌜ Network l (now sheet) ⌝ }
+    requires { ⌜ LinksAt l (now sheet) (now places) (now listed) ⌝ }
     requires { ⌜ (l .nodes ≤ length (now unknowns)) × (RowsRight l (now sheet) (now unknowns)) ⌝ }
     requires { ⌜ now table ≡ powerTable ⌝ }
     requires { ⌜ Room l (state (now heads) (now demands) (now drawn) (now flows) (now statuses) (now grounded)) ⌝ }
@@ -117,6 +126,8 @@ pub fn run_trials(
             sheet,
             l,
             unknowns,
+            places,
+            listed,
             table,
             d,
             tally,

@@ -1,12 +1,12 @@
 -- What a good reading gives, and the ways out of the solve, over plain variables. Assumes nothing.
-use Prim.Native.Nat.{ℕ, _≤_}
+use Prim.Native.Nat.{ℕ, _+_, _≤_}
 use mathlib.Core.Path.{_≡_, refl, sym, ap, _∙_}
 use mathlib.Core.List.{List, _++_}
-use mathlib.Core.Bool.{Bool, true, false, _&&_}
+use mathlib.Core.Bool.{Bool, true, false, not, _&&_, _||_}
 use native.Mathlib.Omega.{arith}
 use native.Mathlib.Nat.{le-of-eq}
-use borrow.Author.Tests.{leb-true}
-use lib.Dec.{leb}
+use borrow.Author.Tests.{leb-true, eqb-false, not-true}
+use lib.Dec.{leb, eqb}
 use lib.ListN.{length, drop}
 use lib.Ieee.{Float, lt, le}
 use Rattle.records.specs.Records.{byteAt, pairAt, optionsOf}
@@ -21,6 +21,11 @@ use Rattle.found.specs.declared.Found.the-variants.{At, Nothing}
 use Rattle.sheet.specs.declared.reading.Reading.{Reading}
 use Rattle.sheet.specs.declared.reading.Reading.the-variants.{Good, Refused}
 use Rattle.layout.specs.declared.places.Layout.{Layout}
+use Rattle.layout.specs.Places.{linkPlace}
+use Rattle.nodes.specs.Nodes.{inService}
+use Rattle.links.specs.Links.{linkStart, linkEnd}
+use Rattle.ends.specs.Ends.{endsGood}
+use Rattle.touching.specs.Touching.{Joined}
 use Rattle.sheet.proofs.Laws.{and-left, and-right}
 use Rattle.accepted.proofs.Accepts.{accepts, ends-are, laid-are, unknowns-are}
 use Rattle.columns.specs.Columns.{zeros}
@@ -41,6 +46,23 @@ unfolding readOf baseBounds
 network-of s l h =
     let a = accepts baseBounds s l h in
     record { laid = laid-are baseBounds s l a; nodes = a .few-nodes; links = a .few-links; ends = ends-are baseBounds s l a; unknowns = unknowns-are baseBounds s l a }
+
+-- its links join nodes, and each two of them
+pub joined-of : (s : List ℕ) (l : Layout) → readOf s ≡ Good l → Joined (linkStart s l) (linkEnd s l) (l .nodes) (l .links)
+unfolding readOf linkStart linkEnd endsGood
+joined-of s l h =
+    let a = accepts baseBounds s l h in
+    let e = ends-are baseBounds s l a in
+    record {
+      start-in = e .start;
+      end-in = e .end;
+      apart = λ j b same.
+          let at = linkPlace l j in
+          let distinct = not (eqb (pairAt s (at + 5)) (pairAt s (at + 7))) in
+          let prv = not (eqb (byteAt s (at + 2)) 1) || inService s l (pairAt s (at + 7)) in
+          let psv = not (eqb (byteAt s (at + 2)) 2) || inService s l (pairAt s (at + 5)) in
+          eqb-false (pairAt s (at + 5)) (pairAt s (at + 7)) (not-true _ (and-left distinct prv (and-left (distinct && prv) psv (a .each-ends j b)))) same;
+    }
 
 trials-in : (b : Bounds) (s : List ℕ) → optionsGood b s ≡ true → pairAt s 26 ≤ b .trials
 unfolding optionsGood

@@ -4,6 +4,7 @@ ghost use mathlib.Core.Path.{_≡_};
 ghost use Prim.Native.Nat.{_≤_};
 ghost use lib.ListN.{length};
 ghost use Rattle.numbering.specs.Numbering.{RowsRight};
+ghost use Rattle.links_at.specs.LinksAt.{LinksAt};
 ghost use Rattle.state.specs.Network.{Network};
 ghost use Rattle.state.specs.State.{state};
 ghost use Rattle.step.specs.Step.{Room, outcome, judged, stepOf};
@@ -42,6 +43,8 @@ pub fn step(
     sheet: &[u8],
     l: Layout,
     unknowns: &[usize],
+    places: &[usize],
+    listed: &[usize],
     d: Damping,
     g: &[f64],
     y: &[f64],
@@ -54,6 +57,7 @@ pub fn step(
     grounded: &[bool],
 ) -> Entry
     requires { ⌜ Network l (now sheet) ⌝ }
+    requires { ⌜ LinksAt l (now sheet) (now places) (now listed) ⌝ }
     requires { ⌜ (l .nodes ≤ length (now unknowns)) × (RowsRight l (now sheet) (now unknowns)) ⌝ }
     requires { ⌜ (l .links ≤ length (now g)) × ((l .links ≤ length (now y)) × (64 ≤ length (now x))) ⌝ }
     requires { ⌜ Room l (state (now heads) (now demands) (now drawn) (now flows) (now statuses) (now grounded)) ⌝ }
@@ -63,7 +67,7 @@ pub fn step(
     let updated = update::update_links(sheet, l, heads, g, y, d.factor, flows, statuses);
     let moved = updated.stats;
     let flip = updated.flip;
-    tanks::tank_links(sheet, l, heads, flows, demands, statuses);
+    tanks::tank_links(sheet, l, places, listed, heads, flows, demands, statuses);
     let stats = drawn::update_drawn(sheet, l, heads, d.factor, demands, drawn, moved);
     match wild::wild_place(l, heads, flows, drawn) {
         Found::At(place) => Entry::Wild(place),

@@ -53,44 +53,6 @@ pub next : {k : ℕ} {done : ℕ → Tanks → Tanks} {d₀ d d₁ : List Float}
     → tanks d₁ t₁ ≡ done (j + 1) (tanks d₀ t₀) → length d₁ ≡ length d → length t₁ ≡ length t → Reached k done d₀ t₀ d₁ t₁ (j + 1)
 next v l e a b = record { upto = omega arith; made = e; d-long = a ∙ v .d-long; t-long = b ∙ v .t-long }
 
-module _ (s : List ℕ) (l : Layout) (i : ℕ) (q : List Float) (full empty : Bool) where
-  pub to-none : (t : Tanks) → t ≡ linksTo s l i q full empty 0 t
-  unfolding linksTo
-  to-none t = refl
-
-  pub from-none : (t : Tanks) → t ≡ linksFrom s l i q full empty 0 t
-  unfolding linksFrom
-  from-none t = refl
-
-module _ (s : List ℕ) (l : Layout) (i : ℕ) (q : List Float) (full empty : Bool) (j : ℕ) (t₀ : Tanks) (d : List Float) (t : List ℕ) (end : ℕ) where
-  pub to-here : (d₁ : List Float) (t₁ : List ℕ) → tanks d t ≡ linksTo s l i q full empty j t₀ → end ≡ linkEnd s l j → end ≡ i
-      → d₁ ≡ addTo d i (getD q j nan) → t₁ ≡ shut full empty (getD q j nan) j t → tanks d₁ t₁ ≡ linksTo s l i q full empty (j + 1) t₀
-  unfolding linksTo
-  to-here d₁ t₁ h read e a b =
-      let y : eqb (linkEnd s l j) i ≡ true = rw (← read) (eq-eqb end i e) in
-      rw (add-one j, y, ← h, a, b)
-
-  pub to-other : (d₁ : List Float) (t₁ : List ℕ) → tanks d t ≡ linksTo s l i q full empty j t₀ → end ≡ linkEnd s l j → (end ≡ i → ⊥)
-      → d₁ ≡ d → t₁ ≡ t → tanks d₁ t₁ ≡ linksTo s l i q full empty (j + 1) t₀
-  unfolding linksTo
-  to-other d₁ t₁ h read e a b =
-      let y : eqb (linkEnd s l j) i ≡ false = rw (← read) (ne-eqb end i e) in
-      rw (add-one j, y, a, b) h
-
-  pub from-here : (d₁ : List Float) (t₁ : List ℕ) → tanks d t ≡ linksFrom s l i q full empty j t₀ → end ≡ linkStart s l j → end ≡ i
-      → d₁ ≡ takeFrom d i (getD q j nan) → t₁ ≡ shut empty full (getD q j nan) j t → tanks d₁ t₁ ≡ linksFrom s l i q full empty (j + 1) t₀
-  unfolding linksFrom
-  from-here d₁ t₁ h read e a b =
-      let y : eqb (linkStart s l j) i ≡ true = rw (← read) (eq-eqb end i e) in
-      rw (add-one j, y, ← h, a, b)
-
-  pub from-other : (d₁ : List Float) (t₁ : List ℕ) → tanks d t ≡ linksFrom s l i q full empty j t₀ → end ≡ linkStart s l j → (end ≡ i → ⊥)
-      → d₁ ≡ d → t₁ ≡ t → tanks d₁ t₁ ≡ linksFrom s l i q full empty (j + 1) t₀
-  unfolding linksFrom
-  from-other d₁ t₁ h read e a b =
-      let y : eqb (linkStart s l j) i ≡ false = rw (← read) (ne-eqb end i e) in
-      rw (add-one j, y, a, b) h
-
 -- ---- one tank, and all
 
 pub tank-made : (s : List ℕ) (l : Layout) (head : Float) (q : List Float) (i : ℕ) (full empty : Bool) (d d₁ d₂ : List Float) (t t₁ t₂ : List ℕ)

@@ -3,6 +3,7 @@ ghost use mathlib.Core.Path.{_≡_};
 ghost use Prim.Native.Nat.{_<_, _≤_};
 ghost use lib.ListN.{length};
 ghost use Rattle.layout.specs.Places.{Laid};
+ghost use Rattle.links_at.specs.LinksAt.{LinksAt};
 ghost use Rattle.tanks.specs.Tanks.{tanks, fullAt, emptyAt, shut, linksTo, linksFrom, tankUpdate, tankUpdates, tankLinksOf};
 use columns::add_to;
 use columns::take_from;
@@ -47,6 +48,8 @@ fn shut_link(above: bool, below: bool, q: f64, j: usize, statuses: &mut [u8])
 fn links_to(
     sheet: &[u8],
     l: Layout,
+    places: &[usize],
+    listed: &[usize],
     i: usize,
     full: bool,
     empty: bool,
@@ -55,10 +58,13 @@ fn links_to(
     statuses: &mut [u8],
 )
     requires { ⌜ Laid l (now sheet) ⌝ }
-    requires { ⌜ (i < length (now demands)) × ((l .links ≤ length (now flows)) × (l .links ≤ length (now statuses))) ⌝ }
+    requires { ⌜ LinksAt l (now sheet) (now places) (now listed) ⌝ }
+    requires { ⌜ (i < l .nodes) × ((i < length (now demands)) × ((l .links ≤ length (now flows)) × (l .links ≤ length (now statuses)))) ⌝ }
     ensures { λ _. ⌜ tanks (now (demands .exit)) (now (statuses .exit)) ≡ linksTo (now (sheet .entry)) l i (now (flows .entry)) full empty (l .links) (tanks (now (demands .entry)) (now (statuses .entry))) ⌝ }
 {
-    for j in 0..l.links {
+    let last = places[i + 1];
+    for p in places[i]..last {
+        let j = listed[p];
         if link_end(sheet, l, j) == i {
             add_to(demands, i, flows[j]);
             shut_link(full, empty, flows[j], j, statuses);
@@ -70,6 +76,8 @@ fn links_to(
 fn links_from(
     sheet: &[u8],
     l: Layout,
+    places: &[usize],
+    listed: &[usize],
     i: usize,
     full: bool,
     empty: bool,
@@ -78,10 +86,13 @@ fn links_from(
     statuses: &mut [u8],
 )
     requires { ⌜ Laid l (now sheet) ⌝ }
-    requires { ⌜ (i < length (now demands)) × ((l .links ≤ length (now flows)) × (l .links ≤ length (now statuses))) ⌝ }
+    requires { ⌜ LinksAt l (now sheet) (now places) (now listed) ⌝ }
+    requires { ⌜ (i < l .nodes) × ((i < length (now demands)) × ((l .links ≤ length (now flows)) × (l .links ≤ length (now statuses)))) ⌝ }
     ensures { λ _. ⌜ tanks (now (demands .exit)) (now (statuses .exit)) ≡ linksFrom (now (sheet .entry)) l i (now (flows .entry)) full empty (l .links) (tanks (now (demands .entry)) (now (statuses .entry))) ⌝ }
 {
-    for j in 0..l.links {
+    let last = places[i + 1];
+    for p in places[i]..last {
+        let j = listed[p];
         if link_start(sheet, l, j) == i {
             take_from(demands, i, flows[j]);
             shut_link(empty, full, flows[j], j, statuses);
@@ -93,6 +104,8 @@ fn links_from(
 fn update_tank(
     sheet: &[u8],
     l: Layout,
+    places: &[usize],
+    listed: &[usize],
     i: usize,
     head: f64,
     flows: &[f64],
@@ -100,32 +113,68 @@ fn update_tank(
     statuses: &mut [u8],
 )
     requires { ⌜ Laid l (now sheet) ⌝ }
+    requires { ⌜ LinksAt l (now sheet) (now places) (now listed) ⌝ }
     requires { ⌜ (i < l .nodes) × ((l .nodes ≤ length (now demands)) × ((l .links ≤ length (now flows)) × (l .links ≤ length (now statuses)))) ⌝ }
     ensures { λ _. ⌜ tanks (now (demands .exit)) (now (statuses .exit)) ≡ tankUpdate (now (sheet .entry)) l head (now (flows .entry)) i (tanks (now (demands .entry)) (now (statuses .entry))) ⌝ }
 {
     let full = is_full(sheet, l, i, head);
     let empty = is_empty(sheet, l, i, head);
     demands[i] = 0.0;
-    links_to(sheet, l, i, full, empty, flows, demands, statuses);
-    links_from(sheet, l, i, full, empty, flows, demands, statuses);
+    links_to(
+        sheet,
+        l,
+        places,
+        listed,
+        i,
+        full,
+        empty,
+        flows,
+        demands,
+        statuses,
+    );
+    links_from(
+        sheet,
+        l,
+        places,
+        listed,
+        i,
+        full,
+        empty,
+        flows,
+        demands,
+        statuses,
+    );
 }
 
 // All tanks in node order. A link that a tank shuts is no status change.
 pub fn tank_links(
     sheet: &[u8],
     l: Layout,
+    places: &[usize],
+    listed: &[usize],
     heads: &[f64],
     flows: &[f64],
     demands: &mut [f64],
     statuses: &mut [u8],
 )
     requires { ⌜ Laid l (now sheet) ⌝ }
+    requires { ⌜ LinksAt l (now sheet) (now places) (now listed) ⌝ }
     requires { ⌜ (l .nodes ≤ length (now heads)) × ((l .nodes ≤ length (now demands)) × ((l .links ≤ length (now flows)) × (l .links ≤ length (now statuses)))) ⌝ }
     ensures { λ _. ⌜ tanks (now (demands .exit)) (now (statuses .exit)) ≡ tankLinksOf (now (sheet .entry)) l (now (heads .entry)) (now (flows .entry)) (now (demands .entry)) (now (statuses .entry)) ⌝ }
 {
     for i in 0..l.nodes {
         if is_tank(sheet, l, i) {
-            update_tank(sheet, l, i, heads[i], flows, demands, statuses);
+            update_tank(
+                sheet,
+                l,
+                places,
+                listed,
+                i,
+                heads[i],
+                flows,
+                demands,
+                statuses,
+            );
         }
     }
 }

@@ -5,6 +5,7 @@ ghost use lib.ListN.{length};
 ghost use Rattle.power.specs.Tables.{powerTable};
 ghost use Rattle.columns.specs.Columns.{zeros};
 ghost use Rattle.numbering.specs.Numbering.{RowsRight};
+ghost use Rattle.links_at.specs.LinksAt.{LinksAt};
 ghost use Rattle.state.specs.Network.{Network};
 ghost use Rattle.state.specs.State.{state};
 ghost use Rattle.step.specs.Step.{Room, outcome};
@@ -20,6 +21,8 @@ pub fn trial(
     sheet: &[u8],
     l: Layout,
     unknowns: &[usize],
+    places: &[usize],
+    listed: &[usize],
     table: &[u64; 1153],
     d: Damping,
     heads: &mut [f64],
@@ -31,6 +34,7 @@ pub fn trial(
     scratch: &mut [f64],
 ) -> Entry
     requires { ⌜ Network l (now sheet) ⌝ }
+    requires { ⌜ LinksAt l (now sheet) (now places) (now listed) ⌝ }
     requires { ⌜ (l .nodes ≤ length (now unknowns)) × (RowsRight l (now sheet) (now unknowns)) ⌝ }
     requires { ⌜ now table ≡ powerTable ⌝ }
     requires { ⌜ Room l (state (now heads) (now demands) (now drawn) (now flows) (now statuses) (now grounded)) ⌝ }
@@ -64,7 +68,7 @@ pub fn trial(
     match linear::factor(scratch, l.unknowns) {
         Factored::Stopped(u) => {
             let node = numbering::node_of(sheet, l, unknowns, u);
-            repair::repair(sheet, l, statuses, grounded, node)
+            repair::repair(sheet, l, places, listed, statuses, grounded, node)
         }
         Factored::Done => {
             substitution::substitute(scratch, l.unknowns, &mut rhs);
@@ -72,6 +76,8 @@ pub fn trial(
                 sheet,
                 l,
                 unknowns,
+                places,
+                listed,
                 d,
                 &g,
                 &y,

@@ -3,6 +3,8 @@ ghost use mathlib.Core.Path.{_≡_};
 ghost use Prim.Native.Nat.{_*_, _≤_};
 ghost use lib.ListN.{length};
 ghost use Rattle.columns.specs.Columns.{zeros};
+ghost use Rattle.links.specs.Links.{linkStart, linkEnd};
+ghost use Rattle.touching.specs.Touching.{Joined};
 ghost use Rattle.state.specs.Network.{Network};
 ghost use Rattle.state.specs.State.{state};
 ghost use Rattle.trial.specs.Trial.{Room, repairOf};
@@ -38,7 +40,7 @@ pub fn follows(trials: usize, turn: Turn) -> Going
     }
 }
 
-// The next trial, with the numbering and the tables made for it; where none is due the run is over at
+// The next trial, with the numbering, the links at nodes and the tables made for it; where none is due the run is over at
 // its limit. The scratch is all +0.0 at the end.
 pub fn next_turn(
     sheet: &[u8],
@@ -56,6 +58,7 @@ pub fn next_turn(
     scratch: &mut [f64],
 ) -> Turn
     requires { ⌜ Network l (now sheet) ⌝ }
+    requires { ⌜ Joined (linkStart (now sheet) l) (linkEnd (now sheet) l) (l .nodes) (l .links) ⌝ }
     requires { ⌜ Room l (state (now h) (now d) (now f) (now q) (now c) (now z)) ⌝ }
     requires { ⌜ (trials ≤ 65535) × ((4 * trials ≤ length (now entries)) × (length (now scratch) ≡ 4096)) ⌝ }
     ensures turn { λ r. ⌜ record { turn = r; bytes = now (entries .exit); state = state (now (h .exit)) (now (d .exit)) (now (f .exit)) (now (q .exit)) (now (c .exit)) (now (z .exit)) } ≡ nextTurn repairOf (now (sheet .entry)) l trials damping tally (now (entries .entry)) (state (now (h .entry)) (now (d .entry)) (now (f .entry)) (now (q .entry)) (now (c .entry)) (now (z .entry))) ⌝ }
@@ -73,12 +76,17 @@ pub fn next_turn(
         };
     }
     let mut unknowns = [0usize; 64];
+    let mut places = [0usize; 65];
+    let mut listed = [0usize; 256];
     let table = power::power_table();
     numbering::number_unknowns(sheet, l, &mut unknowns);
+    links_at::list_at_nodes(sheet, l, &mut places, &mut listed);
     runs::advance(
         sheet,
         l,
         &unknowns,
+        &places,
+        &listed,
         &table,
         damping,
         tally,

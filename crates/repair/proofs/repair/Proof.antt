@@ -9,7 +9,7 @@ use Rattle.repair.proofs.repair.Tie as tie
 slice-write-statuses : tie.Need-slice-write-statuses
 slice-write-statuses c =
     let r = c .before .before .before in
-    let start = r .before .before .before .before .before in
+    let start = r .before .before .before .before .before .before .before in
     omega (arith, start .pre, regulator-below _ _ _ _ _ (sym (r .regulator-at .ensures) ∙ c .before .j .given .1))
 
 returns : tie.Need-returns

@@ -16,7 +16,7 @@ use Rattle.runs.proofs.advance.Tie as tie
 
 -- the places, each from the one after it
 abbrev start-of : tie.After-trial → tie.Start
-start-of t = t .before .before .before .before .before .before .before .before .before .before .before .before .before .before .before .before .before .before
+start-of t = t .before .before .before .before .before .before .before .before .before .before .before .before .before .before .before .before .before .before .before .before
 
 abbrev trial-of : tie.After-clear → tie.After-trial
 trial-of k = k .before .before .before .before .before .before .before .before .before .before .before .before .before .before .before .before .before
@@ -29,8 +29,8 @@ put-of g = g .before .before .before
 
 trial-requires : tie.Need-trial-requires
 trial-requires c κs =
-    let p = c .before .before .before .before .before .before .before .before .before .before .before .before .before .before .before .before .before .pre in
-    (p .0, (p .1 .0, (p .1 .1 .0, (p .1 .1 .1 .0, p .1 .1 .1 .1 .1 .1))))
+    let p = c .before .before .before .before .before .before .before .before .before .before .before .before .before .before .before .before .before .before .before .pre in
+    (p .0, (p .1 .0, (p .1 .1 .0, (p .1 .1 .1 .0, (p .1 .1 .1 .1 .0, p .1 .1 .1 .1 .1 .1 .1)))))
 
 -- the unknowns' columns are within the scratch, which keeps its length
 few : (t : tie.After-trial) → start-of t .args .l .unknowns ≤ 64
@@ -42,16 +42,16 @@ mul-clear c = omega (arith, few (c .before .before .before .before .before .befo
 clear-requires : tie.Need-clear-requires
 clear-requires c κs =
     let t = c .before .before .before .before .before .before .before .before .before .before .before .before .before .before .before .before in
-    omega (arith, few t, t .trial .kept .1 .1 .1 .1 .1 .1 .1 .1 .1 .1 .1 .0, ap length (start-of t .pre .1 .1 .1 .1 .1 .1), zeros-long 4096)
+    omega (arith, few t, t .trial .kept .1 .1 .1 .1 .1 .1 .1 .1 .1 .1 .1 .1 .1 .0, ap length (start-of t .pre .1 .1 .1 .1 .1 .1 .1), zeros-long 4096)
 
 put-requires : tie.Need-put-requires
 put-requires c κs =
-    let p = start-of (trial-of (clear-of c)) .pre .1 .1 .1 .1 in
+    let p = start-of (trial-of (clear-of c)) .pre .1 .1 .1 .1 .1 in
     omega (arith, p)
 
 count-requires : tie.Need-count-requires
 count-requires c κs =
-    let p = start-of (trial-of (clear-of (put-of c .before))) .pre .1 .1 .1 .1 .0 in
+    let p = start-of (trial-of (clear-of (put-of c .before))) .pre .1 .1 .1 .1 .1 .0 in
     omega (arith, p)
 
 returns : tie.Need-returns

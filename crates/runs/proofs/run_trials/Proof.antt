@@ -15,7 +15,7 @@ use Rattle.runs.proofs.run_trials.Statement.{statement}
 use Rattle.runs.proofs.run_trials.Tie as tie
 
 abbrev Inv-loop : tie.InvT-loop
-Inv-loop sheet l trials unknowns table heads₀ demands₀ drawn₀ flows₀ statuses₀ grounded₀ entries₀ scratch₀ d₀ tally₀ heads demands drawn flows statuses grounded entries scratch d tally =
+Inv-loop sheet l trials unknowns places listed table heads₀ demands₀ drawn₀ flows₀ statuses₀ grounded₀ entries₀ scratch₀ d₀ tally₀ heads demands drawn flows statuses grounded entries scratch d tally =
     Kept (state heads₀ demands₀ drawn₀ flows₀ statuses₀ grounded₀) (state heads demands drawn flows statuses grounded) entries₀ entries scratch₀ scratch
     × (tally .trials ≤ trials)
     × (tally .freed ≤ tally .trials)
@@ -25,7 +25,7 @@ Inv-loop sheet l trials unknowns table heads₀ demands₀ drawn₀ flows₀ sta
     × (scratch ≡ zeros 4096)
 
 abbrev μ-loop : tie.MeasureT-loop
-μ-loop sheet l trials unknowns table heads₀ demands₀ drawn₀ flows₀ statuses₀ grounded₀ entries₀ scratch₀ d₀ tally₀ heads demands drawn flows statuses grounded entries scratch d tally =
+μ-loop sheet l trials unknowns places listed table heads₀ demands₀ drawn₀ flows₀ statuses₀ grounded₀ entries₀ scratch₀ d₀ tally₀ heads demands drawn flows statuses grounded entries scratch d tally =
     trials - tally .trials
 
 -- the places of a turn
@@ -33,7 +33,7 @@ abbrev clear-of : tie.At-loop Inv-loop μ-loop → tie.After-clear Inv-loop μ-l
 clear-of l = l .before .before .before .before
 
 abbrev start-of : tie.At-loop Inv-loop μ-loop → tie.Start Inv-loop μ-loop
-start-of l = clear-of l .before .before .before .before .before .before .before .before .before .before .before .before
+start-of l = clear-of l .before .before .before .before .before .before .before .before .before .before .before .before .before .before
 
 abbrev test-of : tie.After-advance Inv-loop μ-loop → tie.Then1 Inv-loop μ-loop
 test-of a = a .before .before .before .before .before .before .before .before .before
@@ -49,7 +49,7 @@ abbrev counted-of : (a : tie.After-advance Inv-loop μ-loop) → Counts (loop-of
 counted-of a = turn-counts _ _ _ 0 _ _ _ _ _ (a .advance .ensures .0)
 
 clear-requires : tie.Need-clear-requires Inv-loop μ-loop
-clear-requires c κs = omega (arith, c .before .before .before .before .before .before .before .before .before .before .before .pre .1 .1 .1 .1 .1 .1)
+clear-requires c κs = omega (arith, c .before .before .before .before .before .before .before .before .before .before .before .before .before .pre .1 .1 .1 .1 .1 .1 .1)
 
 damping-start-requires : tie.Need-damping-start-requires Inv-loop μ-loop
 damping-start-requires c κs = search needs
@@ -57,7 +57,7 @@ damping-start-requires c κs = search needs
 loop-holds : tie.Need-loop-holds Inv-loop μ-loop
 loop-holds c =
     let k = c .before .before .before in
-    (kept-start _ _ _, omega arith, omega arith, omega arith, rw (sub-zero, c .damping-start .ensures), k .clear .ensures ∙ cleared-zeros 4096 _ (k .before .before .before .before .before .before .before .before .before .before .before .before .pre .1 .1 .1 .1 .1 .1))
+    (kept-start _ _ _, omega arith, omega arith, omega arith, rw (sub-zero, c .damping-start .ensures), k .clear .ensures ∙ cleared-zeros 4096 _ (k .before .before .before .before .before .before .before .before .before .before .before .before .before .before .pre .1 .1 .1 .1 .1 .1 .1))
 
 advance-requires : tie.Need-advance-requires Inv-loop μ-loop
 advance-requires c κs =
@@ -71,10 +71,13 @@ advance-requires c κs =
         (
           p .1 .1 .0,
           (
-            kept-room _ _ _ _ _ _ _ (v .0) (p .1 .1 .1 .0),
+            p .1 .1 .1 .0,
             (
-              omega (arith, v .2, v .3, i .if1 .taken, p .1 .1 .1 .1 .0),
-              (omega (arith, v .0 .entries, i .if1 .taken, p .1 .1 .1 .1), v .5),
+              kept-room _ _ _ _ _ _ _ (v .0) (p .1 .1 .1 .1 .0),
+              (
+                omega (arith, v .2, v .3, i .if1 .taken, p .1 .1 .1 .1 .1 .0),
+                (omega (arith, v .0 .entries, i .if1 .taken, p .1 .1 .1 .1 .1), v .5),
+              ),
             ),
           ),
         ),
@@ -94,7 +97,7 @@ loop-again c =
     let a = advance-of (c .before .before .before) in
     let v = loop-of a .loop .inv in
     let k = v .0 in
-    let u = a .advance .kept .1 .1 .1 .1 .1 .1 in
+    let u = a .advance .kept .1 .1 .1 .1 .1 .1 .1 .1 in
     let n = counted-of a in (
       record {
         heads = u .0 ∙ k .heads;
@@ -119,42 +122,42 @@ enum-known-going-2 c = search needs
 same-length : tie.Need-same-length Inv-loop μ-loop
 same-length c =
     let a = advance-of (c .before .before .before) in
-    a .advance .kept .1 .1 .1 .1 .1 .1 .0 ∙ loop-of a .loop .inv .0 .heads
+    a .advance .kept .1 .1 .1 .1 .1 .1 .1 .1 .0 ∙ loop-of a .loop .inv .0 .heads
 
 same-length-2 : tie.Need-same-length-2 Inv-loop μ-loop
 same-length-2 c =
     let a = advance-of (c .before .before .before) in
-    a .advance .kept .1 .1 .1 .1 .1 .1 .1 .0 ∙ loop-of a .loop .inv .0 .demands
+    a .advance .kept .1 .1 .1 .1 .1 .1 .1 .1 .1 .0 ∙ loop-of a .loop .inv .0 .demands
 
 same-length-3 : tie.Need-same-length-3 Inv-loop μ-loop
 same-length-3 c =
     let a = advance-of (c .before .before .before) in
-    a .advance .kept .1 .1 .1 .1 .1 .1 .1 .1 .0 ∙ loop-of a .loop .inv .0 .drawn
+    a .advance .kept .1 .1 .1 .1 .1 .1 .1 .1 .1 .1 .0 ∙ loop-of a .loop .inv .0 .drawn
 
 same-length-4 : tie.Need-same-length-4 Inv-loop μ-loop
 same-length-4 c =
     let a = advance-of (c .before .before .before) in
-    a .advance .kept .1 .1 .1 .1 .1 .1 .1 .1 .1 .0 ∙ loop-of a .loop .inv .0 .flows
+    a .advance .kept .1 .1 .1 .1 .1 .1 .1 .1 .1 .1 .1 .0 ∙ loop-of a .loop .inv .0 .flows
 
 same-length-5 : tie.Need-same-length-5 Inv-loop μ-loop
 same-length-5 c =
     let a = advance-of (c .before .before .before) in
-    a .advance .kept .1 .1 .1 .1 .1 .1 .1 .1 .1 .1 .0 ∙ loop-of a .loop .inv .0 .statuses
+    a .advance .kept .1 .1 .1 .1 .1 .1 .1 .1 .1 .1 .1 .1 .0 ∙ loop-of a .loop .inv .0 .statuses
 
 same-length-6 : tie.Need-same-length-6 Inv-loop μ-loop
 same-length-6 c =
     let a = advance-of (c .before .before .before) in
-    a .advance .kept .1 .1 .1 .1 .1 .1 .1 .1 .1 .1 .1 .0 ∙ loop-of a .loop .inv .0 .grounded
+    a .advance .kept .1 .1 .1 .1 .1 .1 .1 .1 .1 .1 .1 .1 .1 .0 ∙ loop-of a .loop .inv .0 .grounded
 
 same-length-7 : tie.Need-same-length-7 Inv-loop μ-loop
 same-length-7 c =
     let a = advance-of (c .before .before .before) in
-    a .advance .kept .1 .1 .1 .1 .1 .1 .1 .1 .1 .1 .1 .1 .0 ∙ loop-of a .loop .inv .0 .entries
+    a .advance .kept .1 .1 .1 .1 .1 .1 .1 .1 .1 .1 .1 .1 .1 .1 .0 ∙ loop-of a .loop .inv .0 .entries
 
 same-length-8 : tie.Need-same-length-8 Inv-loop μ-loop
 same-length-8 c =
     let a = advance-of (c .before .before .before) in
-    a .advance .kept .1 .1 .1 .1 .1 .1 .1 .1 .1 .1 .1 .1 .1 .0 ∙ loop-of a .loop .inv .0 .scratch ∙ clear-of (loop-of a) .clear .kept .1 .0
+    a .advance .kept .1 .1 .1 .1 .1 .1 .1 .1 .1 .1 .1 .1 .1 .1 .1 .0 ∙ loop-of a .loop .inv .0 .scratch ∙ clear-of (loop-of a) .clear .kept .1 .0
 
 returns : tie.Need-returns Inv-loop μ-loop
 returns c =

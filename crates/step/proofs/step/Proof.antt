@@ -9,7 +9,7 @@ use Rattle.step.proofs.step.Tie as tie
 
 -- the places of a step
 abbrev start-of : tie.After-put-heads → tie.Start
-start-of p = p .before .before .before .before .before .before .before .before .before .before .before .before .before
+start-of p = p .before .before .before .before .before .before .before .before .before .before .before .before .before .before .before
 
 abbrev put-of : tie.After-update-links → tie.After-put-heads
 put-of u = u .before .before .before .before .before .before
@@ -25,28 +25,28 @@ drawn-of w = w .before .before .before .before .before .before
 
 put-heads-requires : tie.Need-put-heads-requires
 put-heads-requires c κs =
-    let start = c .before .before .before .before .before .before .before .before .before .before .before .before in
-    (omega (arith, start .pre .0 .nodes, start .pre .1 .0 .0, start .pre .1 .1 .0, start .pre .1 .1 .1 .heads), start .pre .1 .0 .1)
+    let start = c .before .before .before .before .before .before .before .before .before .before .before .before .before .before in
+    (omega (arith, start .pre .0 .nodes, start .pre .1 .1 .0 .0, start .pre .1 .1 .1 .0, start .pre .1 .1 .1 .1 .heads), start .pre .1 .1 .0 .1)
 
 update-links-requires : tie.Need-update-links-requires
 update-links-requires c κs =
     let p = c .before .before .before .before .before in
     let start = start-of p in
-    (start .pre .0 .laid, (start .pre .0 .ends, omega (arith, start .pre .1 .1 .1 .heads, p .put-heads .kept, start .pre .1 .1 .0, start .pre .1 .1 .1 .flows, start .pre .1 .1 .1 .statuses)))
+    (start .pre .0 .laid, (start .pre .0 .ends, omega (arith, start .pre .1 .1 .1 .1 .heads, p .put-heads .kept, start .pre .1 .1 .1 .0, start .pre .1 .1 .1 .1 .flows, start .pre .1 .1 .1 .1 .statuses)))
 
 tank-links-requires : tie.Need-tank-links-requires
 tank-links-requires c κs =
     let u = c .before .before .before .before .before .before .before .before .before in
     let p = put-of u in
     let start = start-of p in
-    (start .pre .0 .laid, omega (arith, start .pre .1 .1 .1, p .put-heads .kept, u .update-links .kept))
+    (start .pre .0 .laid, (start .pre .1 .0, omega (arith, start .pre .1 .1 .1 .1, p .put-heads .kept, u .update-links .kept)))
 
 update-drawn-requires : tie.Need-update-drawn-requires
 update-drawn-requires c κs =
     let t = c .before .before .before .before .before .before .before in
     let p = put-of (update-of t) in
     let start = start-of p in
-    let room = start .pre .1 .1 .1 in
+    let room = start .pre .1 .1 .1 .1 in
     (start .pre .0 .laid, (omega (arith, room .heads, p .put-heads .kept), (omega (arith, room .demands, t .tank-links .kept), room .drawn)))
 
 wild-place-requires : tie.Need-wild-place-requires
@@ -55,7 +55,7 @@ wild-place-requires c κs =
     let u = update-of (tank-of f) in
     let p = put-of u in
     let start = start-of p in
-    let room = start .pre .1 .1 .1 in
+    let room = start .pre .1 .1 .1 .1 in
     ((start .pre .0 .nodes, start .pre .0 .links), (omega (arith, room .heads, p .put-heads .kept), (omega (arith, room .flows, u .update-links .kept), omega (arith, room .drawn, f .update-drawn .kept))))
 
 options-of-requires : tie.Need-options-of-requires
@@ -98,7 +98,7 @@ same-length-9 c =
 same-length-10 : tie.Need-same-length-10
 same-length-10 c =
     let t = tank-of (drawn-of (c .before .before .before .before)) in
-    t .tank-links .kept .1 .1 .1 .1 .1 .0 ∙ update-of t .update-links .kept .1 .1 .1 .1 .1 .1 .1 .0
+    t .tank-links .kept .1 .1 .1 .1 .1 .1 .1 .0 ∙ update-of t .update-links .kept .1 .1 .1 .1 .1 .1 .1 .0
 
 pub step-spec : {M : Type 1} → statement M
 step-spec =

@@ -9,7 +9,7 @@ use lib.Ieee.{Float}
 use Rattle.trial.specs.Trial.{repairOf}
 use Rattle.answers.specs.Answers.{Solved, lent}
 use Rattle.held.specs.Held.{held}
-use Rattle.solver.proofs.Laws.{network-of, few-trials, emptied-part}
+use Rattle.solver.proofs.Laws.{network-of, joined-of, few-trials, emptied-part}
 use Rattle.stepping.proofs.Laws.{took-more, took-answer}
 use Rattle.stepping.proofs.take_one.Statement.{statement}
 use Rattle.stepping.proofs.take_one.Tie as tie
@@ -40,15 +40,18 @@ next-turn-requires c κs =
     let e = start .pre .1 .1 in (
       net,
       (
-        record {
-          heads = omega (arith, net .nodes, c .before .before .before .before .before .before .before .next-turn-arg .given);
-          demands = omega (arith, net .nodes, c .before .before .before .before .before .before .next-turn-arg2 .given);
-          drawn = omega (arith, net .nodes, c .before .before .before .before .before .next-turn-arg3 .given);
-          flows = omega (arith, net .links, c .before .before .before .before .next-turn-arg4 .given);
-          statuses = omega (arith, net .links, c .before .before .before .next-turn-arg5 .given);
-          grounded = omega (arith, net .nodes, c .before .before .before .before .before .before .before .before .marks-in .ok);
-        },
-        (omega (arith, few, start .pre .1 .0), (e .entries, length-take-le 4096 (start .args .scratch .now) (e .scratch))),
+        joined-of _ _ (start .pre .0),
+        (
+          record {
+            heads = omega (arith, net .nodes, c .before .before .before .before .before .before .before .next-turn-arg .given);
+            demands = omega (arith, net .nodes, c .before .before .before .before .before .before .next-turn-arg2 .given);
+            drawn = omega (arith, net .nodes, c .before .before .before .before .before .next-turn-arg3 .given);
+            flows = omega (arith, net .links, c .before .before .before .before .next-turn-arg4 .given);
+            statuses = omega (arith, net .links, c .before .before .before .next-turn-arg5 .given);
+            grounded = omega (arith, net .nodes, c .before .before .before .before .before .before .before .before .marks-in .ok);
+          },
+          (omega (arith, few, start .pre .1 .0), (e .entries, length-take-le 4096 (start .args .scratch .now) (e .scratch))),
+        ),
       ),
     )
 

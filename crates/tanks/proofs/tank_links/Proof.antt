@@ -10,30 +10,30 @@ use Rattle.tanks.proofs.tank_links.Statement.{statement}
 use Rattle.tanks.proofs.tank_links.Tie as tie
 
 abbrev Inv-loop : tie.InvT-loop
-Inv-loop sheet l heads flows demands₀ statuses₀ i₀ i-end demands statuses i = Reached (l .nodes) (tankUpdates sheet l heads flows) demands₀ statuses₀ demands statuses i
+Inv-loop sheet l places listed heads flows demands₀ statuses₀ i₀ i-end demands statuses i = Reached (l .nodes) (tankUpdates sheet l heads flows) demands₀ statuses₀ demands statuses i
 
 abbrev μ-loop : tie.MeasureT-loop
-μ-loop sheet l heads flows demands₀ statuses₀ i₀ i-end demands statuses i = l .nodes - i
+μ-loop sheet l places listed heads flows demands₀ statuses₀ i₀ i-end demands statuses i = l .nodes - i
 
 loop-holds : tie.Need-loop-holds Inv-loop μ-loop
 loop-holds c = record { upto = omega arith; made = tanks-none _ _ _ _ _; d-long = refl; t-long = refl }
 
 is-tank-requires : tie.Need-is-tank-requires Inv-loop μ-loop
-is-tank-requires c κs = (c .before .before .before .before .before .before .before .pre .0, c .loop-test .taken)
+is-tank-requires c κs = (c .before .before .before .before .before .before .before .before .before .pre .0, c .loop-test .taken)
 
 update-tank-requires : tie.Need-update-tank-requires Inv-loop μ-loop
 update-tank-requires c κs =
     let t = c .before .before .before .before .before in
     let o = t .before in
-    let s = o .before .before .before .before .before .before in
-    (s .pre .0, omega (arith, s .pre .1, t .loop-test .taken, o .loop .inv .d-long, o .loop .inv .t-long))
+    let s = o .before .before .before .before .before .before .before .before in
+    (s .pre .0, (s .pre .1 .0, omega (arith, s .pre .1 .1, t .loop-test .taken, o .loop .inv .d-long, o .loop .inv .t-long)))
 
 loop-again : tie.Need-loop-again Inv-loop μ-loop
 loop-again c =
     let k = c .before in
     let t = k .before in
     let o = t .before in
-    let a = o .before .before .before .before .before .before .args in
+    let a = o .before .before .before .before .before .before .before .before .args in
     let v = o .loop .inv in
     -- in the branch taken w .4 is update_tank, and w .9 and w .10 say what the columns hold after it
     ⊎-elim
@@ -50,7 +50,7 @@ same-length-2 c = c .before .loop .inv .t-long
 returns : tie.Need-returns Inv-loop μ-loop
 returns c =
     let o = c .before in
-    let a = o .before .before .before .before .before .before .args in
+    let a = o .before .before .before .before .before .before .before .before .args in
     let e : o .loop .i ≡ a .l .nodes = omega (arith, o .loop .inv .upto, c .loop-test .left) in
     tanks-all _ _ _ _ _ _ _ _ (o .loop .inv .made) e
 

@@ -9,22 +9,22 @@ use Rattle.tanks.proofs.update_tank.Tie as tie
 
 links-to-requires : tie.Need-links-to-requires
 links-to-requires c κs =
-    let s = c .before .before .before .before .before .before .before .before in
+    let s = c .before .before .before .before .before .before .before .before .before .before in
     let a = s .args in
-    (s .pre .0, omega (arith, s .pre .1, length-set (a .demands .now) (a .i) constant.zero))
+    (s .pre .0, (s .pre .1 .0, omega (arith, s .pre .1 .1, length-set (a .demands .now) (a .i) constant.zero)))
 
 links-from-requires : tie.Need-links-from-requires
 links-from-requires c κs =
     let o = c .before .before .before .before .before .before in
-    let s = o .before .before .before .before .before .before .before .before .before in
+    let s = o .before .before .before .before .before .before .before .before .before .before .before in
     let a = s .args in
-    (s .pre .0, omega (arith, s .pre .1, length-set (a .demands .now) (a .i) constant.zero, o .links-to .kept))
+    (s .pre .0, (s .pre .1 .0, omega (arith, s .pre .1 .1, length-set (a .demands .now) (a .i) constant.zero, o .links-to .kept)))
 
 same-length : tie.Need-same-length
 same-length c =
     let m = c .before .before .before .before in
     let o = m .before .before .before .before .before .before .before in
-    let a = o .before .before .before .before .before .before .before .before .before .args in
+    let a = o .before .before .before .before .before .before .before .before .before .before .before .args in
     omega (arith, length-set (a .demands .now) (a .i) constant.zero, o .links-to .kept, m .links-from .kept)
 
 returns : tie.Need-returns

@@ -19,7 +19,7 @@ use Rattle.trial.proofs.trial.Tie as tie
 
 -- the places of a trial
 abbrev start-of : tie.After-counts → tie.Start
-start-of k = k .before .before .before .before .before .before .before .before .before .before .before .before
+start-of k = k .before .before .before .before .before .before .before .before .before .before .before .before .before .before
 
 abbrev counts-of : tie.After-excess-flows → tie.After-counts
 counts-of e = e .before .before .before
@@ -46,7 +46,7 @@ module _ (a : tie.After-assemble) where
   filled = let x = a .assemble .last .1 .1 .1 .1 .1 .1 .1 .1 .1 .1 .1 in system (x .0) (x .1 .0) (x .1 .1 .0) (x .1 .1 .1 .0)
 
   long : length (start .args .scratch .now) ≡ 4096
-  long = all-long (start .pre .1 .1 .1 .1)
+  long = all-long (start .pre .1 .1 .1 .1 .1)
 
   assembled : filled ≡ systemOf (start .args .sheet .now) (start .args .l) was
   unfolding zeros
@@ -61,7 +61,7 @@ excess-flows-requires : tie.Need-excess-flows-requires
 excess-flows-requires c κs =
     let k = c .before .before in
     let s = start-of k in
-    let room = s .pre .1 .1 .1 .0 in
+    let room = s .pre .1 .1 .1 .1 .0 in
     let long = subst (λ (x : List Float). s .args .l .nodes ≤ length x) (sym (k .counts .ensures)) (counting-long _ _ _ _ (room .drawn) (room .demands)) in
     (s .pre .0 .laid, (s .pre .0 .ends, (long, omega (arith, s .pre .0 .nodes, room .flows))))
 
@@ -70,22 +70,22 @@ assemble-requires c κs =
     let e = c .before .before .before .before .before .before .before .before .before .before .before .before in
     let s = start-of (counts-of e) in
     let net = s .pre .0 in
-    let room = s .pre .1 .1 .1 .0 in (
+    let room = s .pre .1 .1 .1 .1 .0 in (
       record {
         laid = net .laid;
         few = net .nodes;
         links = net .links;
-        numbers = s .pre .1 .0 .0;
+        numbers = s .pre .1 .1 .0 .0;
         heads = room .heads;
         excess = omega (arith, net .nodes, e .excess-flows .kept);
         flows = room .flows;
         statuses = room .statuses;
         ends = net .ends;
-        rows = s .pre .1 .0 .1;
+        rows = s .pre .1 .1 .0 .1;
       },
       (
-        record { matrix = all-long (s .pre .1 .1 .1 .1); rhs = omega arith; g = omega (arith, net .links); y = omega (arith, net .links) },
-        (s .pre .1 .1 .1 .1, ((room .demands, (room .drawn, room .grounded)), s .pre .1 .1 .0)),
+        record { matrix = all-long (s .pre .1 .1 .1 .1 .1); rhs = omega arith; g = omega (arith, net .links); y = omega (arith, net .links) },
+        (s .pre .1 .1 .1 .1 .1, ((room .demands, (room .drawn, room .grounded)), s .pre .1 .1 .1 .0)),
       ),
     )
 
@@ -93,15 +93,16 @@ factor-requires : tie.Need-factor-requires
 factor-requires c κs = let a = c .before .before .before .before .before .before in omega (arith, few a, long a, a .assemble .kept)
 
 node-of-requires : tie.Need-node-of-requires
-node-of-requires c κs = let s = start (assemble-of (c .before .before .before .before .before)) in s .pre .1 .0
+node-of-requires c κs = let s = start (assemble-of (c .before .before .before .before .before)) in s .pre .1 .1 .0
 
 repair-requires : tie.Need-repair-requires
 repair-requires c κs =
     let w = c .before .before in
     let f = w .before .before .before .before .before .before in
     let s = start (assemble-of f) in
-    let room = s .pre .1 .1 .1 .0 in
-    (s .pre .0 .laid, (room .statuses, omega (arith, room .grounded, failing-below (s .args .sheet .now) (s .args .l) _ _ _ _ (s .pre .0 .unknowns) (f .factor .ensures .1) (w .before .before .u .given .1) (w .node-of .ensures))))
+    let room = s .pre .1 .1 .1 .1 .0 in
+    let below = failing-below (s .args .sheet .now) (s .args .l) _ _ _ _ (s .pre .0 .unknowns) (f .factor .ensures .1) (w .before .before .u .given .1) (w .node-of .ensures) in
+    (s .pre .0 .laid, (s .pre .1 .0, (below, (room .statuses, omega (arith, room .grounded, below)))))
 
 substitute-requires : tie.Need-substitute-requires
 substitute-requires c κs =
@@ -114,7 +115,7 @@ step-requires c κs =
     let x = c .before .before .before .before .before .before .before .before .before .before in
     let a = assemble-of (x .before .before .before .before .before .before .before) in
     let s = start a in
-    (s .pre .0, (s .pre .1 .0, (omega (arith, s .pre .0 .links, a .assemble .kept, x .substitute .kept), s .pre .1 .1 .1 .0)))
+    (s .pre .0, (s .pre .1 .0, (s .pre .1 .1 .0, (omega (arith, s .pre .0 .links, a .assemble .kept, x .substitute .kept), s .pre .1 .1 .1 .1 .0))))
 
 -- the factors that are left
 factors : (f : tie.After-factor) → f .factor .last .0 ≡ factorsOf (start (assemble-of f) .args .sheet .now) (start (assemble-of f) .args .l) (was (assemble-of f))
@@ -129,7 +130,7 @@ returns c =
     let f = w .before .before .before .before .before .before in
     let a = assemble-of f in
     let v = start a .args in
-    let z = o .repair .last .1 .1 in
+    let z = o .repair .last .1 .1 .1 .1 in
     let m = filled a in (
       trial-stops repairOf (v .sheet .now) (v .l) (v .d) (was a) (m .matrix) (m .rhs) (m .g) (m .y) (f .factor .last .0) (f .factor .result) (outcome (o .repair .result) (state (v .heads .now) (v .demands .now) (v .drawn .now) (v .flows .now) (z .0) (z .1 .0))) (assembled a) (f .factor .ensures .0) (f .factor .ensures .1) _ (w .before .before .u .given .1) (repair-of (v .sheet .now) (v .l) (was a) _ _ (o .repair .result) (z .0) (z .1 .0) (w .node-of .ensures) (o .repair .ensures)),
       factors f,
@@ -143,7 +144,7 @@ returns-2 c =
     let a = assemble-of f in
     let v = start a .args in
     let m = filled a in
-    let h = o .step .last .1 .1 .1 .1 .1 .1 .1 in (
+    let h = o .step .last .1 .1 .1 .1 .1 .1 .1 .1 .1 in (
       trial-steps repairOf (v .sheet .now) (v .l) (v .d) (was a) (m .matrix) (m .rhs) (m .g) (m .y) (f .factor .last .0) (f .factor .result) (outcome (o .step .result) (state (h .0) (h .1 .0) (h .1 .1 .0) (h .1 .1 .1 .0) (h .1 .1 .1 .1 .0) (v .grounded .now))) (assembled a) (f .factor .ensures .0) (f .factor .ensures .1) _ (z .before .before .before .enum-told .given .1) (z .substitute .ensures) (o .step .ensures),
       factors f,
     )

@@ -26,12 +26,15 @@ start-of d = clear-of d .before .before .before .before .before .before .before 
 abbrev due-of : tie.After-number-unknowns → tie.After-due
 due-of n = n .before .before .before .before
 
-abbrev unknowns-of : tie.After-advance → tie.After-number-unknowns
-unknowns-of a = a .before .before .before .before .before .before .before .before .before .before .before .before
+abbrev unknowns-of : tie.After-list-at-nodes → tie.After-number-unknowns
+unknowns-of n = n .before .before .before .before
+
+abbrev listed-of : tie.After-advance → tie.After-list-at-nodes
+listed-of a = a .before .before .before .before .before .before .before .before .before .before .before .before .before .before .before
 
 -- the scratch once it is cleared
 wiped : (d : tie.After-due) → clear-of d .clear .last .1 .0 ≡ zeros 4096
-wiped d = clear-of d .clear .ensures ∙ cleared-zeros 4096 _ (start-of d .pre .1 .1 .1 .1)
+wiped d = clear-of d .clear .ensures ∙ cleared-zeros 4096 _ (start-of d .pre .1 .1 .1 .1 .1)
 
 returns : tie.Need-returns
 returns c =
@@ -41,9 +44,16 @@ returns c =
       wiped (c .before),
     )
 
+list-at-nodes-requires : tie.Need-list-at-nodes-requires
+list-at-nodes-requires c κs =
+    let start = start-of (due-of (c .before .before .before)) in
+    let net = start .pre .0 in
+    (net .laid, (start .pre .1 .0, omega (arith, net .nodes, net .links)))
+
 advance-requires : tie.Need-advance-requires
 advance-requires c κs =
-    let n = c .before .before .before .before .before .before .before .before .before .before .before in
+    let m = c .before .before .before .before .before .before .before .before .before .before .before .before .before .before in
+    let n = unknowns-of m in
     let k = due-of n in
     let start = start-of k in
     let v = start .args in
@@ -51,23 +61,26 @@ advance-requires c κs =
     let w = due-is (v .trials) (v .tally) (sym (k .due .ensures) ∙ so _ (n .before .before .before .if1 .left)) in (
       net,
       (
+        m .list-at-nodes .ensures .1 .1,
         (
-          omega (arith, net .nodes, n .number-unknowns .kept),
-          subst (λ (x : List ℕ). RowsRight (v .l) (v .sheet .now) x) (sym (n .number-unknowns .ensures)) (rows-right (v .sheet .now) (v .l) _ (omega (arith, net .nodes)) (omega (arith, net .nodes))),
+          (
+            omega (arith, net .nodes, n .number-unknowns .kept),
+            subst (λ (x : List ℕ). RowsRight (v .l) (v .sheet .now) x) (sym (n .number-unknowns .ensures)) (rows-right (v .sheet .now) (v .l) _ (omega (arith, net .nodes)) (omega (arith, net .nodes))),
+          ),
+          (n .before .before .power-table .ensures, (start .pre .1 .1 .0, (omega (arith, w, start .pre .1 .1 .1), (omega (arith, w, start .pre .1 .1 .1), wiped k)))),
         ),
-        (n .before .before .power-table .ensures, (start .pre .1 .0, (omega (arith, w, start .pre .1 .1), (omega (arith, w, start .pre .1 .1), wiped k)))),
       ),
     )
 
 same-length-9 : tie.Need-same-length-9
 same-length-9 c =
     let a = c .before .before .before .before .before .before .before .before .before .before .before .before .before .before .before .before in
-    a .advance .kept .1 .1 .1 .1 .1 .1 .1 .1 .1 .1 .1 .1 .1 .0 ∙ clear-of (due-of (unknowns-of a)) .clear .kept .1 .0
+    a .advance .kept .1 .1 .1 .1 .1 .1 .1 .1 .1 .1 .1 .1 .1 .1 .1 .0 ∙ clear-of (due-of (unknowns-of (listed-of a))) .clear .kept .1 .0
 
 returns-2 : tie.Need-returns-2
 returns-2 c =
     let a = c .before .before .before .before .before .before .before .before .before .before .before .before .before .before .before .before in
-    let n = unknowns-of a in
+    let n = unknowns-of (listed-of a) in
     let k = due-of n in
     let start = start-of k in
     let v = start .args in (
@@ -86,6 +99,11 @@ next-turn-spec =
     (λ c κs. search needs)
     (λ c. search needs)
     (λ c κs. search needs)
+    (λ c. search needs)
+    (λ c. search needs)
+    list-at-nodes-requires
+    (λ c. search needs)
+    (λ c. search needs)
     (λ c. search needs)
     advance-requires
     (λ c. search needs)

@@ -1,0 +1,2 @@
+-- The specs of `links_at`.
+pub mod LinksAt

@@ -1,0 +1,2 @@
+-- The specs of `mending`.
+pub mod Mending

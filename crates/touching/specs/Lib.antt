@@ -1,0 +1,2 @@
+-- The specs of `touching`.
+pub mod Touching

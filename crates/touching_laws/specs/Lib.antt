@@ -1,0 +1,2 @@
+-- The specs of `touching_laws`.
+pub mod Lists
