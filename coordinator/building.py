@@ -54,12 +54,12 @@ def sources(name):
 
 
 def is_there(name):
-    return os.path.exists(programs.path(name))
+    return os.path.exists(programs.built(name))
 
 
 def is_old(name, path=None):
     """Whether a source is younger than the program, or than what else was made of this crate at a path."""
-    built = os.stat(path or programs.path(name)).st_mtime
+    built = os.stat(path or programs.built(name)).st_mtime
     return any(os.stat(source).st_mtime > built for source in sources(name))
 
 
@@ -159,7 +159,7 @@ def build(name, why):
                     name, "\n".join(said.strip().splitlines()[-LAST_LINES:])))
             # rt leaves a program alone whose sources are what they were; and a source may be of tomorrow
             now = max([time.time()] + [os.stat(source).st_mtime for source in sources(name)])
-            os.utime(programs.path(name), (now, now))
+            os.utime(programs.built(name), (now, now))
     except OSError as error:
         raise CannotBuild("the program `%s` %s and cannot be built: %s" % (name, why, error)) from error
 

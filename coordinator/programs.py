@@ -1,9 +1,10 @@
 """Runs the proved programs that `rt` built, as `rt` itself runs them: by the kit's loader and, on a processor that is
-not x86-64, under its emulator."""
+not x86-64, under its emulator. Before that they are linked once more, with what gives them an exit status."""
 import os
 import platform
 import shutil
 import subprocess
+import tempfile
 
 ROOT = os.path.dirname(os.path.dirname(os.path.abspath(__file__)))
 
@@ -14,7 +15,12 @@ def is_installed():
 
 
 def path(name):
-    return os.path.join(ROOT, "programs", name) if is_installed() else os.path.join(ROOT, "target", "bin", name)
+    return os.path.join(ROOT, "programs", name) if is_installed() else os.path.join(ROOT, "target", "programs", name)
+
+
+def built(name):
+    """As `rt` built it, whose exit status is 0 whenever it ends by itself."""
+    return path(name) if is_installed() else os.path.join(ROOT, "target", "bin", name)
 
 
 def memory():
@@ -76,7 +82,29 @@ def by_loader(program):
     return ([emulator] if os.path.exists(emulator) else []) + loader + [program]
 
 
+def is_linked(name):
+    """Whether the program stands there, no older than what `rt` compiled."""
+    made, compiled = path(name), os.path.join(ROOT, "target", "obj", name + ".o")
+    return os.path.exists(made) and not (os.path.exists(compiled) and os.stat(compiled).st_mtime > os.stat(made).st_mtime)
+
+
+def link(name):
+    """Links what `rt` compiled with crates/standard/status.c, which gives it an exit status; once."""
+    if is_installed() or is_linked(name):
+        return
+    made, tools, target = path(name), toolchain(), "x86_64-unknown-linux-gnu"
+    os.makedirs(os.path.dirname(made), exist_ok=True)
+    with tempfile.TemporaryDirectory(dir=os.path.dirname(made)) as folder:
+        status, whole = os.path.join(folder, "status.o"), os.path.join(folder, name)
+        subprocess.run([os.path.join(tools, "bin", "clang"), "--target=" + target, "-O2", "-fPIC", "-c",
+                        os.path.join(ROOT, "crates", "standard", "status.c"), "-o", status], check=True)
+        subprocess.run([os.path.join(own(), "bin", "rattle-link"), "--target", target, "--toolchain", tools, "-o", whole,
+                        os.path.join(ROOT, "target", "obj", name + ".o"), status], stderr=subprocess.PIPE, check=True)
+        os.replace(whole, made)
+
+
 def command(name, *args):
+    link(name)
     return by_loader(path(name)) + list(args)
 
 

@@ -343,13 +343,15 @@ class Builds(Folder):
 
     def test_a_built_desk_needs_no_kit_on_the_path(self):
         self.have()
+        os.makedirs(self.path("target", "programs"))
+        self.path("target", "programs", "verdict", data=b"linked")
         with mock.patch("coordinator.programs.ROOT", self.folder), mock.patch.dict(os.environ, {"PATH": "/none"}), \
                 mock.patch.dict(os.environ):
             os.environ.pop("RATTLE_HOME", None)
             self.assertEqual(programs.kit(), os.path.dirname(self.path("kit")))
             os.unlink(self.path("target", "kit"))
             with mock.patch("platform.machine", lambda: "x86_64"):
-                self.assertEqual(programs.command("verdict"), [self.path("target", "bin", "verdict")])
+                self.assertEqual(programs.command("verdict"), [self.path("target", "programs", "verdict")])
             with mock.patch("platform.machine", lambda: "aarch64"), self.assertRaises(FileNotFoundError):
                 programs.command("verdict")
 

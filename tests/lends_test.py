@@ -16,9 +16,9 @@ def asked():
     """(sheet, line) of each case."""
     data, at = read("crates/lends/stdin"), 0
     for line in read("crates/lends/stdout").decode().splitlines():
-        length = struct.unpack_from("<7H", data, at)[6]
-        yield data[at + 14:at + 14 + length], line
-        at += 14 + length
+        length = struct.unpack_from("<6HI", data, at)[6]
+        yield data[at + 16:at + 16 + length], line
+        at += 16 + length
 
 
 class Lends(unittest.TestCase):

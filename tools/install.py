@@ -58,6 +58,7 @@ def have_library():
 def install(prefix):
     for name in PROGRAMS:
         building.have(name)
+        programs.link(name)
     have_library()
     for source, name, mode in pairs():
         with open(source, "rb") as file:

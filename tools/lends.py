@@ -89,7 +89,7 @@ def files():
     for data, text in cases():
         for lengths in lent(data):
             if all(n <= most for n, most in zip(lengths, (80, 80, 160, 160, 1000, 4200))):
-                stdin += struct.pack("<7H", *lengths, len(data)) + data
+                stdin += struct.pack("<6HI", *lengths, len(data)) + data
                 stdout += expected(data, lengths, text)
     return {"crates/lends/stdin": stdin, "crates/lends/stdout": stdout.encode()}
 

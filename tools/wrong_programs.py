@@ -5,7 +5,7 @@
 
 An edit is a public function's where it changes a line of its body, or of a private function or a constant of the
 crate that it reaches with no other public function between. A function that is one call of public
-ones has theirs (EXCEPT). Exit status: 0 the rule is kept; 1 it is not.
+ones has theirs, and one that is a system call has none (EXCEPT). Exit status: 0 the rule is kept; 1 it is not.
 """
 import glob
 import os
@@ -18,7 +18,7 @@ from coordinator import crates, programs
 
 PARTS = ("src", "specs", "proofs")
 LEAST = 2
-EXCEPT = {("sheet", "read")}  # read_within under base_bounds
+EXCEPT = {("sheet", "read"), ("standard", "put")}  # read_within under base_bounds; a write
 
 
 def edits_of(root, crate):

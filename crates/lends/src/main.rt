@@ -1,6 +1,6 @@
 // Lends buffers of given lengths, filled with a pattern, to the solver, and writes the answer and what
 // changed in each buffer: its first changed entry and how many changed, or `-`. The input holds, again
-// and again, the six lengths and the sheet's as 2-byte little-endian numbers, and then the sheet.
+// and again, the six lengths as 2-byte little-endian numbers, the sheet's as a 4-byte one, and then the sheet.
 ghost use Prim.Native.Nat.{_≤_};
 ghost use lib.ListN.{length};
 use answers::Answer;
@@ -133,10 +133,8 @@ fn run(sheet: &[u8], l: Lengths)
     io::write_all(OUT, b"\n");
 }
 
-fn run_first(buffer: &[u8], size: usize, l: Lengths) -> bool {
-    if buffer.len() < size {
-        return false;
-    }
+// False where more is to be lent than there is.
+fn run_within(sheet: &[u8], l: Lengths) -> bool {
     if 80 < l.heads {
         return false;
     }
@@ -155,25 +153,16 @@ fn run_first(buffer: &[u8], size: usize, l: Lengths) -> bool {
     if 4200 < l.scratch {
         return false;
     }
-    run(&buffer[..size], l);
+    run(sheet, l);
     true
 }
 
-fn sheet_in(buffer: &mut [u8], size: usize, l: Lengths) -> bool
-    requires { ⌜ size ≤ length (now buffer) ⌝ }
-{
-    let n = io::read_full(0, &mut buffer[..size]);
-    if n < size {
-        return false;
-    }
-    run_first(buffer, size, l)
-}
-
-// One sheet, or false where the input has ended or is not in this form.
+// One sheet, or false where there is none or its lengths are too large.
 fn step() -> bool {
-    let mut head = [0u8; 14];
-    let n = io::read_full(0, &mut head);
-    if n < 14 {
+    let mut head = [0u8; 16];
+    let mut buffer = io::large_buffer();
+    let next = standard::next_sheet(&mut head, &mut buffer);
+    if next.none {
         return false;
     }
     let l = Lengths {
@@ -184,9 +173,8 @@ fn step() -> bool {
         entries: patterns::two_bytes(&head, 8) as usize,
         scratch: patterns::two_bytes(&head, 10) as usize,
     };
-    let size = patterns::two_bytes(&head, 12) as usize;
-    let mut buffer = io::large_buffer();
-    sheet_in(&mut buffer, size, l)
+    let size = next.size;
+    run_within(&buffer[..size], l)
 }
 
 fn main() {

@@ -6,12 +6,10 @@ ghost use lib.ListN.{length};
 ghost use Rattle.stream.specs.Stream.{countOf};
 use stream::Progress;
 
-const OUT: i32 = 1;
-
 fn show(sheet: &[u8]) {
     let mut out = io::large_buffer();
     let n = listing_text::compose(sheet, &mut out);
-    io::write_all(OUT, &out[..n]);
+    standard::put(&out[..n]);
 }
 
 fn show_long(p: Progress)
@@ -19,7 +17,7 @@ fn show_long(p: Progress)
 {
     let mut out = io::buffer();
     let n = stream::line(stream::refusal(p), &mut out);
-    io::write_all(OUT, &out[..n]);
+    standard::put(&out[..n]);
 }
 
 // The rest of a long sheet, whose first bytes fill the buffer.
@@ -30,7 +28,11 @@ fn read_long(buffer: &mut [u8])
     let mut left: u64 = 1099511627775;
     while left > 0 {
         left -= 1;
-        let n = io::read_full(0, buffer);
+        let more = standard::fill(buffer);
+        if more.failed {
+            return;
+        }
+        let n = more.count;
         if n == 0 {
             left = 0;
         } else {
@@ -42,7 +44,11 @@ fn read_long(buffer: &mut [u8])
 
 fn main() {
     let mut buffer = io::large_buffer();
-    let n = io::read_full(0, &mut buffer);
+    let first = standard::fill(&mut buffer);
+    if first.failed {
+        return;
+    }
+    let n = first.count;
     if n < 65536 {
         show(&buffer[..n]);
     } else {

@@ -1,7 +1,5 @@
 // Reads sheets, each behind its length as a 4-byte little-endian number, and writes a line for each:
 // `G` and the counts of nodes and links, or `R` and the refusal's number and place.
-ghost use Prim.Native.Nat.{_≤_};
-ghost use lib.ListN.{length};
 
 const OUT: i32 = 1;
 
@@ -24,38 +22,17 @@ fn show(reading: sheet::Reading) {
     }
 }
 
-fn show_first(buffer: &[u8], size: usize) -> bool {
-    if buffer.len() < size {
-        return false;
-    }
-    show(sheet::read(&buffer[..size]));
-    true
-}
-
-// A sheet of so many bytes, read into the buffer, or false where the input ends before.
-fn sheet_in(buffer: &mut [u8], size: usize) -> bool
-    requires { ⌜ size ≤ length (now buffer) ⌝ }
-{
-    let n = io::read_full(0, &mut buffer[..size]);
-    if n < size {
-        return false;
-    }
-    show_first(buffer, size)
-}
-
-// One sheet, or false where the input has ended or is not in this form.
+// One sheet, or false where there is none.
 fn step() -> bool {
     let mut head = [0u8; 4];
-    let n = io::read_full(0, &mut head);
-    if n < 4 {
-        return false;
-    }
-    let size = patterns::two_bytes(&head, 0) + 65536 * patterns::two_bytes(&head, 2);
-    if 65536 < size {
-        return false;
-    }
     let mut buffer = io::large_buffer();
-    sheet_in(&mut buffer, size as usize)
+    let next = standard::next_sheet(&mut head, &mut buffer);
+    if next.none {
+        return false;
+    }
+    let size = next.size;
+    show(sheet::read(&buffer[..size]));
+    true
 }
 
 fn main() {

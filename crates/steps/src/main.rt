@@ -1,16 +1,7 @@
 // Reads sheets and writes their listings as `replay` does, one trial at a time; then takes one trial
 // more, which must tell the same and change nothing: where it does not, a line `X` comes first.
-ghost use Prim.Native.Nat.{_≤_};
-ghost use lib.ListN.{length};
 use answers::Answer;
 use held::Taken;
-
-const OUT: i32 = 1;
-
-fn refuse() -> bool {
-    io::write_all(OUT, b"X\n");
-    false
-}
 
 fn same_floats(a: &[f64], b: &[f64]) -> bool {
     if a.len() != b.len() {
@@ -253,21 +244,16 @@ fn list(
     flows: &[f64; 128],
     statuses: &[u8; 128],
     entries: &[u8; 800],
-) {
+) -> bool {
     if 200 < a.trials {
-        refuse();
-        return;
+        return standard::put(b"X\n");
     }
     let mut out = io::large_buffer();
     let n = listing_text::tell(sheet, a, heads, demands, flows, statuses, entries, &mut out);
-    out[n] = b'-';
-    out[n + 1] = b'-';
-    out[n + 2] = b'\n';
-    let end = n + 3;
-    io::write_all(OUT, &out[..end]);
+    standard::put_item(&mut out, n)
 }
 
-fn show(sheet: &[u8]) {
+fn show(sheet: &[u8]) -> bool {
     let mut h = [0.0f64; 64];
     let mut d = [0.0f64; 64];
     let mut f = [0.0f64; 64];
@@ -330,7 +316,7 @@ fn show(sheet: &[u8]) {
         &mut scratch,
     );
     if !stays {
-        refuse();
+        standard::put(b"X\n");
     }
     list(
         sheet,
@@ -340,44 +326,19 @@ fn show(sheet: &[u8]) {
         &flows,
         &statuses,
         &entries,
-    );
+    )
 }
 
-fn show_first(buffer: &[u8], size: usize) -> bool {
-    if buffer.len() < size {
-        return refuse();
-    }
-    show(&buffer[..size]);
-    true
-}
-
-// A sheet of so many bytes, read into the buffer, or false where the input ends before.
-fn sheet_in(buffer: &mut [u8], size: usize) -> bool
-    requires { ⌜ size ≤ length (now buffer) ⌝ }
-{
-    let n = io::read_full(0, &mut buffer[..size]);
-    if n < size {
-        return refuse();
-    }
-    show_first(buffer, size)
-}
-
-// One sheet, or false where the input has ended or is not in this form.
+// One sheet, or false where there is none.
 fn step() -> bool {
     let mut head = [0u8; 4];
-    let n = io::read_full(0, &mut head);
-    if n == 0 {
+    let mut buffer = io::large_buffer();
+    let next = standard::next_sheet(&mut head, &mut buffer);
+    if next.none {
         return false;
     }
-    if n < 4 {
-        return refuse();
-    }
-    let size = patterns::two_bytes(&head, 0) + 65536 * patterns::two_bytes(&head, 2);
-    if 65536 < size {
-        return refuse();
-    }
-    let mut buffer = io::large_buffer();
-    sheet_in(&mut buffer, size as usize)
+    let size = next.size;
+    show(&buffer[..size])
 }
 
 fn main() {

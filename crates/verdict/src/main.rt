@@ -7,8 +7,6 @@ ghost use lib.ListN.{length};
 use sale::Verdict;
 use tolerance::Limits;
 
-const OUT: i32 = 1;
-
 // Three f64s, one behind the other.
 fn limits_in(head: &[u8]) -> Limits
     requires { ⌜ 24 ≤ length (now head) ⌝ }
@@ -20,17 +18,17 @@ fn limits_in(head: &[u8]) -> Limits
     }
 }
 
-fn tell(v: Verdict) {
+fn tell(v: Verdict) -> bool {
     let mut out = [0u8; 64];
     out[0] = b'V';
     let p = words::put_number(v.number, &mut out, 1);
     let q = words::put_number(v.place, &mut out, p);
     out[q] = b'\n';
     let end = q + 1;
-    io::write_all(OUT, &out[..end]);
+    standard::put(&out[..end])
 }
 
-fn judge(sheet: &[u8], limits: Limits) {
+fn judge(sheet: &[u8], limits: Limits) -> bool {
     let mut heads = [0.0f64; 64];
     let mut demands = [0.0f64; 64];
     let mut flows = [0.0f64; 128];
@@ -47,65 +45,33 @@ fn judge(sheet: &[u8], limits: Limits) {
         &mut entries,
         &mut scratch,
     );
-    tell(s.verdict);
+    tell(s.verdict)
 }
 
-fn list(sheet: &[u8]) {
+fn list(sheet: &[u8]) -> bool {
     let mut out = io::large_buffer();
     let n = listing_text::compose(sheet, &mut out);
-    out[n] = b'-';
-    out[n + 1] = b'-';
-    out[n + 2] = b'\n';
-    let end = n + 3;
-    io::write_all(OUT, &out[..end]);
+    standard::put_item(&mut out, n)
 }
 
-fn show(sheet: &[u8], limits: Limits) {
-    judge(sheet, limits);
-    list(sheet);
-}
-
-fn refuse() -> bool {
-    io::write_all(OUT, b"X\n");
-    false
-}
-
-fn show_first(buffer: &[u8], size: usize, limits: Limits) -> bool {
-    if buffer.len() < size {
-        return refuse();
-    }
-    show(&buffer[..size], limits);
-    true
-}
-
-// A sheet of so many bytes, read into the buffer, or false where the input ends before.
-fn sheet_in(buffer: &mut [u8], size: usize, limits: Limits) -> bool
-    requires { ⌜ size ≤ length (now buffer) ⌝ }
-{
-    let n = io::read_full(0, &mut buffer[..size]);
-    if n < size {
-        return refuse();
-    }
-    show_first(buffer, size, limits)
-}
-
-// One sheet with its limits, or false where the input has ended or is not in this form.
-fn step() -> bool {
-    let mut head = [0u8; 28];
-    let n = io::read_full(0, &mut head);
-    if n == 0 {
+fn show(sheet: &[u8], limits: Limits) -> bool {
+    if !judge(sheet, limits) {
         return false;
     }
-    if n < 28 {
-        return refuse();
+    list(sheet)
+}
+
+// One sheet with its limits, or false where there is none.
+fn step() -> bool {
+    let mut head = [0u8; 28];
+    let mut buffer = io::large_buffer();
+    let next = standard::next_sheet(&mut head, &mut buffer);
+    if next.none {
+        return false;
     }
     let limits = limits_in(&head);
-    let size = patterns::two_bytes(&head, 24) + 65536 * patterns::two_bytes(&head, 26);
-    if 65536 < size {
-        return refuse();
-    }
-    let mut buffer = io::large_buffer();
-    sheet_in(&mut buffer, size as usize, limits)
+    let size = next.size;
+    show(&buffer[..size], limits)
 }
 
 fn main() {

@@ -38,6 +38,8 @@ read-long-spec =
     loop-holds
     (λ c. omega arith)
     (λ c κs. search needs)
+    (λ c. search needs)
+    (λ c. search needs)
     (λ c. omega arith)
     (λ c. omega arith)
     (λ c. omega arith)

@@ -5,8 +5,8 @@ use lib.ListN.{length-take}
 use Rattle.listing.proofs.show.Statement.{statement}
 use Rattle.listing.proofs.show.Tie as tie
 
-slice-aggregate-write-all : tie.Need-slice-aggregate-write-all
-slice-aggregate-write-all c = simp length-take (omega arith)
+slice-aggregate-put : tie.Need-slice-aggregate-put
+slice-aggregate-put c = simp length-take (omega arith)
 
 pub show-spec : {M : Type 1} → statement M
 show-spec =
@@ -16,6 +16,6 @@ show-spec =
     (λ c. search needs)
     (λ c κs. search needs)
     (λ c. search needs)
-    slice-aggregate-write-all
+    slice-aggregate-put
     (λ c κs. search needs)
     (λ c. search needs))

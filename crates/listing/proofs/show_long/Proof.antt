@@ -5,8 +5,8 @@ use lib.ListN.{length-take}
 use Rattle.listing.proofs.show_long.Statement.{statement}
 use Rattle.listing.proofs.show_long.Tie as tie
 
-slice-aggregate-write-all : tie.Need-slice-aggregate-write-all
-slice-aggregate-write-all c = simp length-take (omega arith)
+slice-aggregate-put : tie.Need-slice-aggregate-put
+slice-aggregate-put c = simp length-take (omega arith)
 
 pub show-long-spec : {M : Type 1} → statement M
 show-long-spec =
@@ -17,6 +17,6 @@ show-long-spec =
     (λ c. search needs)
     (λ c κs. search needs)
     (λ c. search needs)
-    slice-aggregate-write-all
+    slice-aggregate-put
     (λ c κs. search needs)
     (λ c. search needs))

@@ -11,8 +11,8 @@ array-share-prefix-out c =
     let p = q .before .before .before in
     simp length-set (omega (arith, q .put-number2 .ensures .1, q .put-number2 .kept, p .put-number .ensures .1, p .put-number .kept))
 
-slice-aggregate-write-all : tie.Need-slice-aggregate-write-all
-slice-aggregate-write-all c =
+slice-aggregate-put : tie.Need-slice-aggregate-put
+slice-aggregate-put c =
     let q = c .before .before in
     let p = q .before .before .before in
     simp (length-take, length-set) (omega (arith, q .put-number2 .ensures .1, q .put-number2 .kept, p .put-number .ensures .1, p .put-number .kept))
@@ -29,6 +29,6 @@ tell-spec =
     (λ c. search needs)
     (λ c. search needs)
     array-share-prefix-out
-    slice-aggregate-write-all
+    slice-aggregate-put
     (λ c κs. search needs)
     (λ c. search needs))
