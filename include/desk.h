@@ -1,4 +1,4 @@
-/* The network solver, as C calls it: link with libdesk.a (rt staticlib desk).
+/* The network solver, as C calls it: link with libdesk.a (tools/library.py makes it).
 
    A buffer is its start and its length in entries. An empty buffer may have any start, a null one too.
    Buffers must not overlap one another, the sheet or a state. Nothing is kept between two calls but what the

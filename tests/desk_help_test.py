@@ -59,7 +59,7 @@ class Version(unittest.TestCase):
 
 class Installing(unittest.TestCase):
     def test_every_file_that_is_installed_is_there(self):
-        built = {programs.path(name) for name in install.PROGRAMS} | {install.top(install.LIBRARY)}
+        built = {programs.path(name) for name in install.PROGRAMS} | {install.top(install.library.LIBRARY)}
         names = [name for source, name, _ in install.pairs() if source in built or os.path.isfile(source)]
         self.assertEqual(len(names), len(list(install.pairs())))
         self.assertIn("lib/ndurabeew/coordinator/main.py", names)

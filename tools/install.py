@@ -8,14 +8,13 @@ the kit's emulator, whose folder is remembered; nothing of the repository.
 """
 import glob
 import os
-import subprocess
 import sys
 
+import library
 import product  # noqa: F401
 from coordinator import asking, building, files, programs
 
 PROGRAMS = (asking.NAME, asking.ANY_LENGTH)
-LIBRARY = "target/staticlib/libdesk.a"
 PAPERS = ("README.md", "CHANGELOG.md", "NOTICE", "docs/DESK.md", "docs/SHEETS.md", "docs/BOOKINGS.md", "docs/RULES.md",
           "docs/desk.schema.json", "docs/bookings.schema.json", "docs/june.svg")
 
@@ -31,7 +30,7 @@ def pairs():
         yield source, "lib/ndurabeew/coordinator/" + os.path.basename(source), 0o644
     for name in PROGRAMS:
         yield programs.path(name), "lib/ndurabeew/programs/" + name, 0o755
-    yield top(LIBRARY), "lib/libdesk.a", 0o644
+    yield top(library.LIBRARY), "lib/libdesk.a", 0o644
     yield top("include", "desk.h"), "include/desk.h", 0o644
     for name in PAPERS:
         yield top(name), "share/doc/ndurabeew/" + os.path.basename(name), 0o644
@@ -43,23 +42,11 @@ def put(data, path, mode):
     os.chmod(path, mode)
 
 
-def have_library():
-    """Has the library built where it is not there, or older than its sources; the path to it."""
-    path = top(LIBRARY)
-    if os.path.exists(path) and not building.is_old("desk", path):
-        return path
-    done = subprocess.run(["rt", "staticlib", "desk"], cwd=programs.ROOT, stdout=subprocess.PIPE, stderr=subprocess.STDOUT,
-                          universal_newlines=True, check=False)
-    if done.returncode:
-        raise building.NotToBeHad("rt staticlib desk did not build the library:\n" + done.stdout.strip())
-    return path
-
-
 def install(prefix):
     for name in PROGRAMS:
         building.have(name)
         programs.link(name)
-    have_library()
+    library.have()
     for source, name, mode in pairs():
         with open(source, "rb") as file:
             put(file.read(), os.path.join(prefix, name), mode)

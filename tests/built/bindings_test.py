@@ -14,7 +14,7 @@ import unittest
 TOP = os.path.dirname(os.path.dirname(os.path.dirname(os.path.abspath(__file__))))
 sys.path[:0] = [TOP, os.path.join(TOP, "tools"), os.path.join(TOP, "bindings", "python")]
 
-import install  # noqa: E402
+import library  # noqa: E402
 import ndurabeew  # noqa: E402
 import sheets  # noqa: E402
 from coordinator import building, programs  # noqa: E402
@@ -32,10 +32,12 @@ def lacking(*commands):
 def have_library():
     """The static library that programs of this machine link."""
     if HERE:
-        return install.have_library()
-    path = os.path.join(TOP, "target", "native", "libdesk.a")
-    if not os.path.exists(path) or building.is_old("desk", path):
-        subprocess.run([NATIVE, "desk"], cwd=TOP, stdout=subprocess.DEVNULL, stderr=subprocess.DEVNULL, check=True)
+        return library.have()
+    path = os.path.join(TOP, "target", "native", "joined", "libdesk.a")
+    if not os.path.exists(path) or any(building.is_old(name, path) for name in library.CRATES):
+        for name in library.CRATES:
+            subprocess.run([NATIVE, name], cwd=TOP, stdout=subprocess.DEVNULL, stderr=subprocess.DEVNULL, check=True)
+        library.joined([os.path.join("target", "native", "lib%s.a" % name) for name in library.CRATES], path)
     return path
 
 

@@ -11,14 +11,14 @@ import unittest
 ROOT = os.path.dirname(os.path.dirname(os.path.dirname(os.path.abspath(__file__))))
 sys.path[:0] = [ROOT, os.path.join(ROOT, "tools")]
 
-import install  # noqa: E402
+import library as archive  # noqa: E402
 from coordinator import listings  # noqa: E402
 from coordinator import programs  # noqa: E402
 
 SOURCES = os.path.join(ROOT, "examples", "c")
 SOURCE = os.path.join(SOURCES, "solve.c")
 INCLUDE = os.path.join(ROOT, "include")
-LIBRARY = os.path.join(ROOT, "target", "staticlib", "libdesk.a")
+LIBRARY = os.path.join(ROOT, archive.LIBRARY)
 
 
 def said(*words, given=None):
@@ -41,6 +41,10 @@ def build_by_kit(program, include=INCLUDE, library=LIBRARY, source=SOURCE):
     return programs.by_loader(program)
 
 
+def build_for_here():
+    return build_here if platform.machine() == "x86_64" else build_by_kit
+
+
 def sheet(name):
     return os.path.join(ROOT, "examples", name + ".sheet")
 
@@ -56,10 +60,10 @@ SOLVED = ("looped", "june", "night", "document01", "dry-week/giving-way")
 class FromC(unittest.TestCase):
     @classmethod
     def setUpClass(cls):
-        install.have_library()
+        archive.have()
         folder = tempfile.TemporaryDirectory()
         cls.addClassCleanup(folder.cleanup)
-        build = build_here if platform.machine() == "x86_64" else build_by_kit
+        build = build_for_here()
         cls.solve, cls.steps = (build(os.path.join(folder.name, name), source=os.path.join(SOURCES, name + ".c")) for name in ("solve", "steps"))
 
     def test_short_buffers_are_refused_and_later_entries_stay(self):

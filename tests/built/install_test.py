@@ -2,7 +2,6 @@
 not x86-64 the kit's emulator runs the programs; its folder is the one thing that an installation remembers of the kit."""
 import json
 import os
-import platform
 import shutil
 import subprocess
 import sys
@@ -81,7 +80,7 @@ class Installed(unittest.TestCase):
     def test_library_and_header(self):
         """The example in C, against what was installed alone."""
         program = os.path.join(self.elsewhere, "solve")
-        build = c_test.build_here if platform.machine() == "x86_64" else c_test.build_by_kit
+        build = c_test.build_for_here()
         command = build(program, os.path.join(self.prefix, "include"), os.path.join(self.prefix, "lib", "libdesk.a"))
         said = c_test.said(*command, os.path.join(self.elsewhere, "looped.sheet"))
         self.assertIn("verdict 0, place 0: it may be sold", said)

@@ -1,6 +1,5 @@
 """How much stack a call needs, and calls from several threads: what include/desk.h says of both, measured by stack.c."""
 import os
-import platform
 import re
 import sys
 import tempfile
@@ -10,7 +9,7 @@ TOP = os.path.dirname(os.path.dirname(os.path.dirname(os.path.abspath(__file__))
 sys.path[:0] = [TOP, os.path.join(TOP, "tools")]
 
 import c_test  # noqa: E402
-import install  # noqa: E402
+import library  # noqa: E402
 import sheets  # noqa: E402
 from stored import read  # noqa: E402
 
@@ -31,10 +30,10 @@ def named(folder):
 class Stack(unittest.TestCase):
     @classmethod
     def setUpClass(cls):
-        install.have_library()
+        library.have()
         folder = tempfile.TemporaryDirectory()
         cls.addClassCleanup(folder.cleanup)
-        build = c_test.build_here if platform.machine() == "x86_64" else c_test.build_by_kit
+        build = c_test.build_for_here()
         command = build(os.path.join(folder.name, "stack"), source=SOURCE)
         cls.lines = [line.split() for line in c_test.said(*command, *named(folder.name)).splitlines()]
 

@@ -1,9 +1,9 @@
--- `desk::desk_trial` meets its contract, for any sheet, any state and any buffers. Assumes nothing.
+-- `desk_steps::desk_trial` meets its contract, for any sheet, any state and any buffers. Assumes nothing.
 use mathlib.Core.Path.{ap, _∙_}
 use borrow.Author.Needs.{needs}
-use Rattle.desk.specs.Desk.{passedOf}
-use Rattle.desk.proofs.desk_trial.Statement.{statement}
-use Rattle.desk.proofs.desk_trial.Tie as tie
+use Rattle.desk_steps.specs.Steps.{passedOf}
+use Rattle.desk_steps.proofs.desk_trial.Statement.{statement}
+use Rattle.desk_steps.proofs.desk_trial.Tie as tie
 
 returns : tie.Need-returns
 unfolding passedOf
