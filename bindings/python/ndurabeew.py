@@ -1,10 +1,15 @@
-"""The proved solver from python: `solve` and `verdict` of include/desk.h, called in the shared library by ctypes.
+"""The proved solver from python: the functions of include/desk.h, called in the shared library by ctypes.
 
     import ndurabeew
     desk = ndurabeew.Library("libdesk.so")
     answer = desk.verdict(sheet)
     if answer.may_be_sold:
         print(answer.heads)
+
+    trials = desk.trials(sheet)
+    while trials.told.how == ndurabeew.MORE:
+        trials.take()
+        print(trials.entry)
 
 A sheet is bytes. Nothing is decided here, and nothing raised for a sheet that is refused: its answer has the number and
 the place. Several threads may use one Library.
@@ -20,7 +25,11 @@ LOWEST, HEAD, FLOW = 0.0, 0.1, 0.001
 # what entries hold that no answer has: results are finite, and no status has this code
 NOTHING, NO_STATUS = struct.unpack("<d", b"\xff" * 8)[0], 255
 
+# what a start or a trial tells first: a trial may follow, this is the answer, the call was refused
+MORE, DONE, REFUSED = 0, 1, 2
+
 Entry = namedtuple("Entry", "mark number")
+Told = namedtuple("Told", "how number place trials freed grounded")
 
 
 class Answer(namedtuple("Answer", "number place trials freed grounded heads demands flows statuses record "
@@ -58,11 +67,54 @@ class Buffers:
         return Answer(*self.counts, *columns, statuses, record, *self.totals, verdict)
 
 
+class State(ctypes.Structure):
+    """`desk_state` of include/desk.h: entries behind the sheet's nodes and links are 0."""
+    _fields_ = [("heads", ctypes.c_double * NODES), ("demands", ctypes.c_double * NODES), ("drawn", ctypes.c_double * NODES),
+                ("flows", ctypes.c_double * LINKS), ("sums", ctypes.c_double * 5), ("counts", ctypes.c_uint64 * 6),
+                ("statuses", ctypes.c_uint8 * LINKS), ("grounded", ctypes.c_uint8 * NODES)]
+
+    def lent(self):
+        return [self.heads, self.demands, self.drawn, self.flows, self.statuses, self.grounded, self.sums, self.counts]
+
+
+class Trials:
+    """A solve taken one trial at a time. `told` is what the last call told, `state` what the next trial starts from."""
+
+    def __init__(self, start, trial, sheet):
+        self._trial, self._sheet, self._lent, self._counts = trial, bytes(sheet), Buffers(), (ctypes.c_uint64 * 6)()
+        self.state = State()
+        start(self._sheet, ctypes.c_size_t(len(self._sheet)), *self.state.lent(), self._counts)
+        self.told = Told(*self._counts)
+
+    def take(self):
+        """One trial. After the answer nothing changes, and none follows a sheet that was refused."""
+        if self.told.how != REFUSED:
+            self._trial(self._sheet, ctypes.c_size_t(len(self._sheet)), *self.state.lent(), *self._lent.lent(), self._counts)
+            self.told = Told(*self._counts)
+        return self.told
+
+    @property
+    def entry(self):
+        """The record's last entry, or None before the first trial."""
+        taken = 4 * self.told.trials
+        return Entry(bytes(self._lent.record[taken - 4:taken - 2]).decode("ascii"),
+                     struct.unpack("<H", bytes(self._lent.record[taken - 2:taken]))[0]) if taken else None
+
+    def answer(self):
+        """What a whole solve answers, once it is there; else None."""
+        if self.told.how == MORE:
+            return None
+        self._lent.counts[:] = self.told[1:]
+        self._lent.totals[:] = self.state.sums[2:]
+        return self._lent.answer(None)
+
+
 class Library:
     def __init__(self, path):
         library = ctypes.CDLL(path)
         self._solve, self._verdict = library.desk_solve, library.desk_verdict
-        for function in (self._solve, self._verdict):
+        self._start, self._trial = library.desk_start, library.desk_trial
+        for function in (self._solve, self._verdict, self._start, self._trial):
             function.restype = None
 
     def solve(self, sheet):
@@ -76,3 +128,7 @@ class Library:
         limits = [ctypes.c_double(limit) for limit in (lowest, head, flow)]
         self._verdict(sheet, ctypes.c_size_t(len(sheet)), *limits, *lent.lent(), lent.counts, lent.totals, verdict)
         return lent.answer(tuple(verdict))
+
+    def trials(self, sheet):
+        """The solve of a sheet, started and waiting for its first trial."""
+        return Trials(self._start, self._trial, sheet)

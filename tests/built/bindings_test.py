@@ -95,6 +95,19 @@ class Python(unittest.TestCase):
             answer = self.desk.verdict(sheet)
             self.assertEqual((answer.number, answer.place, answer.heads, answer.verdict), (1, 0, [], (1, 1)))
 
+    def test_trials_one_by_one(self):
+        for sheet in [case.data for case in sheets.stored()[::80]] + [sheets.EXAMPLES["looped"].encode(), b"", b"OP"]:
+            whole, trials, entries = self.desk.solve(sheet), self.desk.trials(sheet), []
+            while trials.told.how == ndurabeew.MORE:
+                self.assertIsNone(trials.answer())
+                self.assertEqual(trials.take().trials, len(entries) + 1)
+                entries.append(trials.entry)
+            self.assertEqual(trials.told.how == ndurabeew.REFUSED, whole.number in (1, 2, 3, 4))
+            self.assertEqual(entries, whole.record)
+            held, told = bytes(trials.state), trials.told
+            self.assertEqual((trials.take(), bytes(trials.state)), (told, held))
+            self.assertEqual(repr(trials.answer()), repr(whole))
+
     def test_threads(self):
         sheet, found = sheets.EXAMPLES["looped"].encode(), []
         alone = self.desk.verdict(sheet)
@@ -117,7 +130,7 @@ class Rust(unittest.TestCase):
         return done.stdout
 
     def test_its_own_tests(self):
-        self.assertIn("3 passed", self.cargo("test"))
+        self.assertIn("5 passed", self.cargo("test"))
 
     def test_examples(self):
         said = self.cargo("run", "--example", "bits", "--", *examples())

@@ -30,6 +30,21 @@ extern "C" {
         record: *mut u8, record_length: usize, scratch: *mut f64, scratch_length: usize,
         counts: *mut u64, totals: *mut f64, verdict: *mut u64,
     );
+    fn desk_start(
+        sheet: *const u8, sheet_length: usize,
+        state_heads: *mut f64, state_demands: *mut f64, state_drawn: *mut f64, state_flows: *mut f64,
+        state_statuses: *mut u8, state_grounded: *mut u8, state_sums: *mut f64, state_counts: *mut u64,
+        told: *mut u64,
+    );
+    fn desk_trial(
+        sheet: *const u8, sheet_length: usize,
+        state_heads: *mut f64, state_demands: *mut f64, state_drawn: *mut f64, state_flows: *mut f64,
+        state_statuses: *mut u8, state_grounded: *mut u8, state_sums: *mut f64, state_counts: *mut u64,
+        heads: *mut f64, heads_length: usize, demands: *mut f64, demands_length: usize,
+        flows: *mut f64, flows_length: usize, statuses: *mut u8, statuses_length: usize,
+        record: *mut u8, record_length: usize, scratch: *mut f64, scratch_length: usize,
+        told: *mut u64,
+    );
 }
 
 /// What a verdict is asked with: feet, feet, cubic feet per second. The default is what the desk takes.
@@ -109,18 +124,23 @@ impl Buffers {
         }
     }
 
+    fn entries(&self, trials: u64) -> Vec<Entry> {
+        let entries = self.record.chunks_exact(4).take(trials as usize);
+        entries.map(|e| Entry { mark: [e[0], e[1]], number: u16::from_le_bytes([e[2], e[3]]) }).collect()
+    }
+
     fn answer(self) -> Answer {
         let [number, place, trials, freed, grounded] = self.counts;
         let solved = number == 0;
         let told = |column: Vec<f64>| column.into_iter().filter(|x| solved && !x.is_nan()).collect();
-        let entries = self.record.chunks_exact(4).take(trials as usize);
+        let record = self.entries(trials);
         Answer {
             number, place, trials, freed, grounded,
             heads: told(self.heads),
             demands: told(self.demands),
             flows: told(self.flows),
             statuses: self.statuses.into_iter().filter(|&code| solved && code != NO_STATUS).collect(),
-            record: entries.map(|e| Entry { mark: [e[0], e[1]], number: u16::from_le_bytes([e[2], e[3]]) }).collect(),
+            record,
             total_demand: self.totals[0],
             total_supply: self.totals[1],
             error: self.totals[2],
@@ -159,4 +179,122 @@ pub fn verdict(sheet: &[u8], limits: &Limits) -> (Answer, Verdict) {
         );
     }
     (lent.answer(), Verdict { number: told[0], place: told[1] })
+}
+
+/// What a start or a trial tells first.
+#[derive(Clone, Copy, Debug, PartialEq, Eq)]
+pub enum How {
+    /// a trial may follow
+    More,
+    /// this is the answer
+    Done,
+    /// the call was refused, and nothing changed
+    Refused,
+}
+
+/// What a start or a trial told.
+#[derive(Clone, Copy, Debug, PartialEq, Eq)]
+pub struct Told {
+    pub how: How,
+    pub number: u64,
+    pub place: u64,
+    pub trials: u64,
+    pub freed: u64,
+    pub grounded: u64,
+}
+
+impl Told {
+    fn from(counts: [u64; 6]) -> Told {
+        let [how, number, place, trials, freed, grounded] = counts;
+        let how = [How::More, How::Done, How::Refused][how as usize];
+        Told { how, number, place, trials, freed, grounded }
+    }
+}
+
+/// What the next trial starts from. Entries behind the sheet's nodes and links are 0.
+#[derive(Clone, Debug, PartialEq)]
+pub struct State {
+    pub heads: [f64; NODES],
+    pub demands: [f64; NODES],
+    pub drawn: [f64; NODES],
+    pub flows: [f64; LINKS],
+    pub statuses: [u8; LINKS],
+    pub grounded: [u8; NODES],
+    sums: [f64; 5],
+    counts: [u64; 6],
+}
+
+/// A solve taken one trial at a time.
+pub struct Trials<'a> {
+    sheet: &'a [u8],
+    state: State,
+    lent: Buffers,
+    told: Told,
+}
+
+impl<'a> Trials<'a> {
+    /// Starts the solve of a sheet.
+    pub fn start(sheet: &'a [u8]) -> Trials<'a> {
+        let mut state = State {
+            heads: [0.0; NODES], demands: [0.0; NODES], drawn: [0.0; NODES], flows: [0.0; LINKS],
+            statuses: [0; LINKS], grounded: [0; NODES], sums: [0.0; 5], counts: [0; 6],
+        };
+        let mut counts = [0; 6];
+        // SAFETY: as in `solve`; the columns have the sizes of include/desk.h
+        unsafe {
+            desk_start(
+                sheet.as_ptr(), sheet.len(),
+                state.heads.as_mut_ptr(), state.demands.as_mut_ptr(), state.drawn.as_mut_ptr(), state.flows.as_mut_ptr(),
+                state.statuses.as_mut_ptr(), state.grounded.as_mut_ptr(), state.sums.as_mut_ptr(), state.counts.as_mut_ptr(),
+                counts.as_mut_ptr(),
+            );
+        }
+        Trials { sheet, state, lent: Buffers::new(), told: Told::from(counts) }
+    }
+
+    pub fn told(&self) -> Told {
+        self.told
+    }
+
+    pub fn state(&self) -> &State {
+        &self.state
+    }
+
+    /// The record's entries so far.
+    pub fn record(&self) -> Vec<Entry> {
+        self.lent.entries(self.told.trials)
+    }
+
+    /// One trial. After the answer nothing changes, and none follows a sheet that was refused.
+    pub fn take(&mut self) -> Told {
+        if self.told.how != How::Refused {
+            let (state, lent) = (&mut self.state, &mut self.lent);
+            let mut counts = [0; 6];
+            // SAFETY: as in `start`
+            unsafe {
+                desk_trial(
+                    self.sheet.as_ptr(), self.sheet.len(),
+                    state.heads.as_mut_ptr(), state.demands.as_mut_ptr(), state.drawn.as_mut_ptr(), state.flows.as_mut_ptr(),
+                    state.statuses.as_mut_ptr(), state.grounded.as_mut_ptr(), state.sums.as_mut_ptr(), state.counts.as_mut_ptr(),
+                    lent.heads.as_mut_ptr(), lent.heads.len(), lent.demands.as_mut_ptr(), lent.demands.len(),
+                    lent.flows.as_mut_ptr(), lent.flows.len(), lent.statuses.as_mut_ptr(), lent.statuses.len(),
+                    lent.record.as_mut_ptr(), lent.record.len(), lent.scratch.as_mut_ptr(), lent.scratch.len(),
+                    counts.as_mut_ptr(),
+                );
+            }
+            self.told = Told::from(counts);
+        }
+        self.told
+    }
+
+    /// What a whole solve answers, once it is there; else what was started.
+    pub fn answer(mut self) -> Result<Answer, Trials<'a>> {
+        if self.told.how == How::More {
+            return Err(self);
+        }
+        let Told { number, place, trials, freed, grounded, .. } = self.told;
+        self.lent.counts = [number, place, trials, freed, grounded];
+        self.lent.totals.copy_from_slice(&self.state.sums[2..]);
+        Ok(self.lent.answer())
+    }
 }

@@ -1,6 +1,6 @@
 //! What no sheet may do to the functions, and calls from several threads.
 
-use ndurabeew::{solve, verdict, Limits};
+use ndurabeew::{solve, verdict, How, Limits, Trials};
 
 /// A reservoir of head 100 and a junction with no link: document 01's sheet of 119 bytes.
 fn smallest() -> Vec<u8> {
@@ -48,4 +48,32 @@ fn threads_get_what_one_gets() {
     for thread in threads {
         assert!(thread.join().unwrap().iter().all(|answer| *answer == alone));
     }
+}
+
+#[test]
+fn trials_one_by_one_are_the_whole_solve() {
+    let sheet = smallest();
+    let mut trials = Trials::start(&sheet);
+    let mut taken = 0;
+    while trials.told().how == How::More {
+        trials = trials.answer().err().unwrap();
+        taken += 1;
+        assert_eq!(trials.take().trials, taken);
+        assert_eq!(trials.record().len() as u64, taken);
+    }
+    assert_eq!(trials.state().grounded[..3], [0, 1, 0]);
+    let told = trials.told();
+    let held = trials.state().clone();
+    assert_eq!(trials.take(), told);
+    assert_eq!(*trials.state(), held);
+    assert_eq!(trials.answer().ok().unwrap(), solve(&sheet));
+}
+
+#[test]
+fn no_trial_follows_a_refused_start() {
+    let mut trials = Trials::start(b"OP");
+    let told = trials.told();
+    assert_eq!((told.how, told.number, told.place), (How::Refused, 1, 0));
+    assert_eq!(trials.take(), told);
+    assert_eq!(trials.answer().ok().unwrap(), solve(b"OP"));
 }
