@@ -47,45 +47,65 @@ def demand(node, booked):
     return min(node["demand"], 0.0) if node["kind"] == JUNCTION else node["demand"]
 
 
-def sheet_of(data, hour, out_of_question=()):
-    """The scheme's sheet with the demands of an hour. Nodes that are out of question stand so low that no lowest pressure
-    is too high for them."""
-    flows, number, parts = {booking.node: booking.flow for booking in hour.bookings}, 0, []
+def row_of(data, hour):
+    """What each node of a scheme asks in an hour, in their order."""
+    flows = {booking.node: booking.flow for booking in hour.bookings}
+    nodes = [fields for _, mark, fields in sheet_bounds.records(data)[0] if mark == b"ND"]
+    return tuple(demand(node, flows.get(number)) for number, node in enumerate(nodes))
+
+
+def with_nodes(data, changed):
+    """A sheet with other fields of its nodes; `changed` gives those of a node."""
+    number, parts = 0, []
     for _, mark, fields in sheet_bounds.records(data)[0]:
         if mark == b"ND":
-            fields = dict(fields, demand=demand(fields, flows.get(number)))
-            if number in out_of_question:
-                fields["elevation"] = -sheet_bounds.LIMIT
+            fields = dict(fields, **changed(number))
             number += 1
         parts.append(record(mark, fields))
     return b"".join(parts)
+
+
+def with_row(data, row):
+    """A sheet with a row's demands."""
+    return with_nodes(data, lambda number: {"demand": row[number]})
+
+
+def without(data, nodes):
+    """A sheet in which some nodes are out of question: they stand so low that no lowest pressure is too high for them."""
+    return with_nodes(data, lambda number: {"elevation": -sheet_bounds.LIMIT} if number in nodes else {})
 
 
 def least(booking, limits):
     return limits.lowest if booking.least is None else booking.least
 
 
+# the sheet and the row of demands that are asked about, and with which limits
+Question = namedtuple("Question", "sheet row limits")
+
+
 def questions(data, hour, limits):
-    """(name, sheet, limits) of what is asked about an hour, first the sheet itself at the least of its lowest pressures. The
-    program knows one lowest pressure for all hydrants; so it is asked at each of them, about the sheet, and about one in
-    which the hydrants that need less are out of question."""
-    found = []
+    """What is asked about an hour, by its name, first the scheme itself at the least of its lowest pressures. The program
+    knows one lowest pressure for all hydrants; so it is asked at each of them, about the scheme, and about one in which the
+    hydrants that need less are out of question."""
+    row, found = row_of(data, hour), {}
     for step in sorted({least(booking, limits) for booking in hour.bookings}):
-        own = limits._replace(lowest=step)
-        found.append(((step, "all"), sheet_of(data, hour), own))
-        if found[1:]:
+        own, first = limits._replace(lowest=step), not found
+        found[step, "all"] = Question(data, row, own)
+        if not first:
             easier = [booking.node for booking in hour.bookings if least(booking, limits) < step]
-            found.append(((step, "some"), sheet_of(data, hour, easier), own))
+            found[step, "some"] = Question(without(data, easier), row, own)
     return found
 
 
 def ask_all(asked, ask):
-    """A reply for each (sheet, limits): those with the same limits go in one call."""
+    """A reply for each question. How rows are put to the program is known here alone: each as a sheet, those with the same
+    limits in one call."""
     alike, replies = {}, {}
-    for number, (_, limits) in enumerate(asked):
-        alike.setdefault(limits, []).append(number)
+    for number, question in enumerate(asked):
+        alike.setdefault(question.limits, []).append(number)
     for limits, numbers in alike.items():
-        replies.update(zip(numbers, ask([asked[number][0] for number in numbers], limits)))
+        sheets = [with_row(asked[number].sheet, asked[number].row) for number in numbers]
+        replies.update(zip(numbers, ask(sheets, limits)))
     return [replies[number] for number in range(len(asked))]
 
 
@@ -104,15 +124,14 @@ def unmet(hour, limits, replies):
 
 
 def judge(given, hours, limits, ask):
-    """So many hours at most, judged: one sheet an hour, and for each further lowest pressure two more."""
-    asked = [(hour, *question) for hour in hours for question in questions(given.data, hour, limits)]
-    replies = ask_all([(data, own) for _, _, data, own in asked], ask)
+    """So many hours at most, judged: one question an hour, and for each further lowest pressure two more."""
+    asked = [questions(given.data, hour, limits) for hour in hours]
+    replies = iter(ask_all([question for mine in asked for question in mine.values()], ask))
     judged = []
-    for hour in hours:
-        mine = [(name, data, own, reply) for (of, name, data, own), reply in zip(asked, replies) if of is hour]
-        _, data, own, reply = mine[0]
-        answer = Answer(hour.name, data, reply, own, names=given.names)
-        told = {name: found for name, _, _, found in mine}
+    for hour, mine in zip(hours, asked):
+        told = {name: next(replies) for name in mine}
+        first, reply = next(iter(mine.values())), next(iter(told.values()))
+        answer = Answer(hour.name, with_row(first.sheet, first.row), reply, first.limits, names=given.names)
         judged.append(Judged(hour, answer, unmet(hour, limits, told) if answer.may_be_sold else None))
     return judged
 

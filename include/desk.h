@@ -6,8 +6,8 @@
    buffers and a state of its own (several may lend the same sheet).
 
    Stack that a call needs below its caller's frame, whatever the sheet: 20 KiB for desk_solve, 32 KiB for
-   desk_verdict (19,903 and 31,135 bytes at most were measured on x86-64). A thread needs some KiB more for
-   itself: lend it 64 KiB. */
+   desk_verdict, 44 KiB for desk_evening and desk_evening_verdict (19,903, 31,135 and 41,023 bytes at most were
+   measured in the x86-64 library). A thread needs some KiB more for itself: lend it 64 KiB. */
 #ifndef DESK_H
 #define DESK_H
 
@@ -103,6 +103,55 @@ void desk_verdict(const uint8_t *sheet, size_t sheet_length,
                   uint8_t *record, size_t record_length,
                   double *scratch, size_t scratch_length,
                   uint64_t counts[5], double totals[3], uint64_t verdict[2]);
+
+/* An evening of turns in one call: each row of a table of demands is put into the sheet and solved, in order. What
+   is left in a row's room is what desk_solve with that row's demands in the sheet leaves there.
+
+   The table has one row a pattern and one entry a node: rows * n entries, those of row r from r * n on. Every other
+   buffer has one solve's room a row, the scratch apart, which all rows share (n nodes, k links, m allowed trials):
+     heads, demands   n   of row r: from r * n on
+     flows, statuses  k   from r * k on
+     record          4m   from r * 4m on
+     counts           5   from r * 5 on: number, place, trials, freed valves, grounded nodes, as desk_solve tells them
+     totals           3   from r * 3 on: total demand, total supply, error
+     scratch       4096   once
+   32 rows of every sheet have room in 2,048, 2,048, 4,096, 4,096, 25,600, 160, 96 and 4,096 entries.
+
+   called[0] and called[1], of the call: 0 at 0, and every row was solved; else the call is refused:
+     1 to 4  the sheet as it stands, its own demands too, with desk_solve's places
+     5       scratch too short; place 5
+     14      no rows, more than 32 rows, the table or a result buffer too short; place 0, 1, 2
+   A refused call changes nothing lent but called.
+
+   A demand of the table that is no good number (NaN, infinite, above 2^40 in magnitude) is number 3 of its row alone, with
+   the offset of its node's record, and the other rows go on. A row whose number is not 0 changes of its room what
+   desk_solve would, and its counts and totals. Entries past the rows' rooms stay. */
+void desk_evening(const uint8_t *sheet, size_t sheet_length,
+                  size_t rows, const double *table, size_t table_length,
+                  double *heads, size_t heads_length,
+                  double *demands, size_t demands_length,
+                  double *flows, size_t flows_length,
+                  uint8_t *statuses, size_t statuses_length,
+                  uint8_t *record, size_t record_length,
+                  double *scratch, size_t scratch_length,
+                  uint64_t *counts, size_t counts_length,
+                  double *totals, size_t totals_length,
+                  uint64_t called[2]);
+
+/* The same, and each row judged under desk_verdict's limits. A row has 7 counts, from r * 7 on: the five, then the
+   verdict's number and place; 224 entries are enough for 32 rows. */
+void desk_evening_verdict(const uint8_t *sheet, size_t sheet_length,
+                          double lowest_pressure, double head, double flow,
+                          size_t rows, const double *table, size_t table_length,
+                          double *heads, size_t heads_length,
+                          double *demands, size_t demands_length,
+                          double *flows, size_t flows_length,
+                          uint8_t *statuses, size_t statuses_length,
+                          uint8_t *record, size_t record_length,
+                          double *scratch, size_t scratch_length,
+                          uint64_t *counts, size_t counts_length,
+                          double *totals, size_t totals_length,
+                          uint64_t called[2]);
 
 /* The same solve one trial at a time, so that a screen can be drawn between trials: start once, then take trials
    until the answer is told. Taken so, the trials come to desk_solve's answer, record and results, after as many

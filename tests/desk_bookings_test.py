@@ -151,13 +151,21 @@ class Asking(Folder):
         data, scheme = sheet_text.read_scheme(SCHEME)
         found = bookings.read(table.encode(), bookings.Scheme(fields_of(data), scheme.names))
         (hour,) = found.hours.values()
-        return fields_of(evening.sheet_of(data, hour))
+        return fields_of(evening.with_row(data, evening.row_of(data, hour)))
 
     def test_what_is_booked_is_drawn_and_nothing_else(self):
         nodes = self.sheet("1,ridge,7 L/s\n1,end,6 L/s\n")
         self.assertEqual([node["demand"] * 28.317 for node in nodes], [0.0, 0.0, 0.0, 7.0, 6.0, -1.0, 0.0])
         self.assertEqual([node["elevation"] for node in nodes], [node["elevation"] for node in fields_of(
             sheet_text.read_scheme(SCHEME)[0])])
+
+    def test_a_row_is_the_demands_alone(self):
+        data = sheet_text.read_scheme(SCHEME)[0]
+        row = [node["demand"] for node in fields_of(data)]
+        self.assertEqual(evening.with_row(data, row), data)
+        other = evening.with_row(data, [x + 0.5 for x in row])
+        self.assertEqual(evening.with_row(other, row), data)
+        self.assertEqual([node["demand"] for node in fields_of(other)], [x + 0.5 for x in row])
 
     def test_32_hours_at_a_time(self):
         program = Program()

@@ -11,9 +11,12 @@ import unittest
 ROOT = os.path.dirname(os.path.dirname(os.path.dirname(os.path.abspath(__file__))))
 sys.path[:0] = [ROOT, os.path.join(ROOT, "tools")]
 
+import evenings  # noqa: E402
 import library as archive  # noqa: E402
 from coordinator import listings  # noqa: E402
 from coordinator import programs  # noqa: E402
+from coordinator.network import JUNCTION  # noqa: E402
+from coordinator.sheet_format import decode  # noqa: E402
 
 SOURCES = os.path.join(ROOT, "examples", "c")
 SOURCE = os.path.join(SOURCES, "solve.c")
@@ -116,6 +119,52 @@ class FromC(unittest.TestCase):
         self.assertEqual(lines[2:-2], heads)
         self.assertEqual(lines[-2:], ["entries past the sheet's own stay as they were",
                                       "each buffer one entry short: refused with 5 at its place, nothing changed"])
+
+
+TURNS = 4
+HEADING = "turn  number  place  trials  freed  grounded  demand cfs  least pressure ft  node"
+
+
+class EveningFromC(unittest.TestCase):
+    """Four turns in one call, against the listing of each turn's sheet."""
+
+    @classmethod
+    def setUpClass(cls):
+        archive.have()
+        folder = tempfile.TemporaryDirectory()
+        cls.addClassCleanup(folder.cleanup)
+        cls.evening = build_for_here()(os.path.join(folder.name, "evening"), source=os.path.join(SOURCES, "evening.c"))
+
+    def turn(self, data, nodes, turn):
+        """The example's line on a turn."""
+        row = [node["demand"] if node["kind"] != JUNCTION or not node["demand"] > 0.0
+               else TURNS * node["demand"] if i % TURNS == turn else 0.0 for i, node in enumerate(nodes)]
+        listing = listings.Listing(programs.run("listing", evenings.with_row(data, evenings.packed(row))).decode("ascii"))
+        line = "%4d  %6d  %5d  %6d  %5d  %8d" % (
+            turn, listing.number, listing.place, listing.trials, listing.freed, listing.grounded)
+        if listing.number != 0:
+            return line
+        pressures = [(head - node["elevation"], i) for i, (node, head) in enumerate(zip(nodes, listing.heads))
+                     if node["kind"] == JUNCTION]
+        return line + "  %10.4f  %17.4f  %4d" % (listing.balance[0], *min(pressures))
+
+    def test_four_turns(self):
+        for name in SOLVED:
+            with self.subTest(name), open(sheet(name), "rb") as file:
+                data = file.read()
+                nodes = [fields for _, mark, fields in decode(data) if mark == b"ND"]
+                lines = said(*self.evening, sheet(name)).splitlines()
+                self.assertEqual([line.strip() for line in lines[1:-2]], [self.turn(data, nodes, k).strip() for k in range(TURNS)])
+                self.assertEqual([lines[0], *lines[-2:]], [
+                    HEADING, "scratch one entry short: number 5, place 5, nothing changed",
+                    "heads one entry short: number 14, place 2, nothing changed"])
+
+    def test_the_page_shows_it(self):
+        with open(os.path.join(SOURCES, "README.md"), encoding="utf-8") as file:
+            self.assertIn("```\n%s\n```" % said(*self.evening, sheet("looped")), file.read())
+
+    def test_a_refused_sheet(self):
+        self.assertEqual(said(*self.evening, sheet("refused")), "refused: number 3, place 168")
 
 
 if __name__ == "__main__":

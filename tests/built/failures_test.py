@@ -32,7 +32,8 @@ def item(data):
 SHEET = example("document01")
 LIMITS = struct.pack("<ddd", *USUAL)
 # what each program takes for one sheet
-TAKES = {"listing": SHEET, "replay": item(SHEET), "steps": item(SHEET), "verdict": LIMITS + item(SHEET)}
+TAKES = {"listing": SHEET, "replay": item(SHEET), "steps": item(SHEET), "verdict": LIMITS + item(SHEET),
+         "evening": struct.pack("<I", 1) + item(SHEET) + struct.pack("<I2d", 2, 0.0, 0.0)}
 
 
 def ended(name, **streams):
@@ -95,8 +96,10 @@ class Programs(unittest.TestCase):
     def test_an_output_that_cannot_be_written(self):
         for name, data in TAKES.items():
             with self.subTest(name), open("/dev/full", "wb") as full:
-                self.assertEqual(ended(name, input=data, stdout=full)[0], NO_OUTPUT)
-                self.assertEqual(by_shell(name, ">&-", data)[0], NO_OUTPUT)
+                for (status, said), _ in (ended(name, input=data, stdout=full), by_shell(name, ">&-", data)):
+                    # evening says it for each line that it cannot write
+                    times = said.count(b"\n") if name == "evening" else 1
+                    self.assertEqual((status, said), (NO_OUTPUT[0], times * NO_OUTPUT[1]))
 
     def test_many_sheets_for_an_output_that_is_full(self):
         """It stops at the first."""

@@ -1,8 +1,8 @@
 /* How much stack a call needs, and calls from several threads at once: stack SHEET...
 
    Each call runs in a thread whose stack is painted before; what is below the caller's frame and no longer painted was
-   used. Prints `NAME solve BYTES` and `NAME verdict BYTES` for each sheet, then `threads same` if eight threads that
-   solve at the same time, some dozen times each, all get the answers that one gets alone. */
+   used. Prints `SHEET FUNCTION BYTES` for each sheet and function, the evenings with two rows, then `threads same` if eight
+   threads that call one at the same time, some dozen times each, all get the answers that one gets alone. */
 #include <pthread.h>
 #include <stdio.h>
 #include <stdlib.h>
@@ -14,17 +14,21 @@
 #define PAINT 0xA5
 #define THREADS 8
 #define ROUNDS 40
+#define ROWS 2
+
+enum { SOLVE, VERDICT, EVENING, EVENING_VERDICT, CALLS };
+static const char *const names[CALLS] = {"desk_solve", "desk_verdict", "desk_evening", "desk_evening_verdict"};
 
 struct room {
-    double heads[64], demands[64], flows[128], scratch[4096], totals[3];
-    uint8_t statuses[128], record[800];
-    uint64_t counts[5], verdict[2];
+    double table[ROWS * 64], heads[ROWS * 64], demands[ROWS * 64], flows[ROWS * 128], scratch[4096], totals[ROWS * 3];
+    uint8_t statuses[ROWS * 128], record[ROWS * 800];
+    uint64_t counts[ROWS * 7], told[2];
 };
 
 struct job {
     uint8_t sheet[9199];
     size_t length;
-    int with_verdict, times;
+    int what, times;
     /* where the caller's frame is, as a number */
     uintptr_t base;
     struct room room;
@@ -33,9 +37,17 @@ struct job {
 static void call(struct job *job)
 {
     struct room *r = &job->room;
-    if (job->with_verdict)
+    if (job->what == VERDICT)
         desk_verdict(job->sheet, job->length, 0.0, 0.1, 0.001, r->heads, 64, r->demands, 64, r->flows, 128, r->statuses, 128,
-                     r->record, 800, r->scratch, 4096, r->counts, r->totals, r->verdict);
+                     r->record, 800, r->scratch, 4096, r->counts, r->totals, r->told);
+    else if (job->what == EVENING)
+        desk_evening(job->sheet, job->length, ROWS, r->table, ROWS * 64, r->heads, ROWS * 64, r->demands, ROWS * 64, r->flows,
+                     ROWS * 128, r->statuses, ROWS * 128, r->record, ROWS * 800, r->scratch, 4096, r->counts, ROWS * 5, r->totals,
+                     ROWS * 3, r->told);
+    else if (job->what == EVENING_VERDICT)
+        desk_evening_verdict(job->sheet, job->length, 0.0, 0.1, 0.001, ROWS, r->table, ROWS * 64, r->heads, ROWS * 64, r->demands,
+                             ROWS * 64, r->flows, ROWS * 128, r->statuses, ROWS * 128, r->record, ROWS * 800, r->scratch, 4096,
+                             r->counts, ROWS * 7, r->totals, ROWS * 3, r->told);
     else
         desk_solve(job->sheet, job->length, r->heads, 64, r->demands, 64, r->flows, 128, r->statuses, 128,
                    r->record, 800, r->scratch, 4096, r->counts, r->totals);
@@ -84,13 +96,14 @@ static size_t used(struct job *job)
     return found;
 }
 
-static int same_in_threads(const char *path)
+static int same_in_threads(const char *path, int what)
 {
     static struct job alone, jobs[THREADS];
     pthread_t threads[THREADS];
     memset(&alone, 0, sizeof alone);
     read_sheet(path, &alone);
-    alone.with_verdict = alone.times = 1;
+    alone.what = what;
+    alone.times = 1;
     for (int i = 0; i < THREADS; i++) {
         jobs[i] = alone;
         jobs[i].times = ROUNDS;
@@ -110,14 +123,17 @@ static int same_in_threads(const char *path)
 int main(int count, char **paths)
 {
     static struct job job;
-    for (int i = 1; i < count; i++) {
-        memset(&job, 0, sizeof job);
-        read_sheet(paths[i], &job);
-        job.times = 1;
-        printf("%s solve %zu\n", paths[i], used(&job));
-        job.with_verdict = 1;
-        printf("%s verdict %zu\n", paths[i], used(&job));
-    }
-    printf("threads %s\n", count > 1 && same_in_threads(paths[1]) ? "same" : "differ");
+    int same = count > 1;
+    for (int i = 1; i < count; i++)
+        for (int what = 0; what < CALLS; what++) {
+            memset(&job, 0, sizeof job);
+            read_sheet(paths[i], &job);
+            job.times = 1;
+            job.what = what;
+            printf("%s %s %zu\n", paths[i], names[what], used(&job));
+        }
+    for (int what = VERDICT; what < CALLS; what++)
+        same = same && same_in_threads(paths[1], what);
+    printf("threads %s\n", same ? "same" : "differ");
     return 0;
 }

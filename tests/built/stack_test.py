@@ -43,10 +43,11 @@ class Stack(unittest.TestCase):
         return max(found)
 
     def test_what_the_header_says_is_enough_and_not_far_from_it(self):
-        told = re.search(r"(\d+) KiB for desk_solve, (\d+) KiB for\s+desk_verdict", HEADER)
-        for what, kib in zip(("solve", "verdict"), told.groups()):
-            self.assertLessEqual(self.most(what), int(kib) * KIB, what)
-            self.assertGreater(self.most(what), int(kib) * KIB / 2, what)
+        for what in ("desk_solve", "desk_verdict", "desk_evening", "desk_evening_verdict"):
+            told = re.search(r"(\d+) KiB for(?:\s+desk_\w+ and)?\s+%s\b" % what, HEADER)
+            self.assertIsNotNone(told, "desk.h does not say how much stack %s needs" % what)
+            self.assertLessEqual(self.most(what), int(told.group(1)) * KIB, what)
+            self.assertGreater(self.most(what), int(told.group(1)) * KIB / 2, what)
 
     def test_threads(self):
         self.assertIn("several threads may call at the same time", " ".join(HEADER.split()))

@@ -1,0 +1,2 @@
+-- The specs of `apart`.
+pub mod Apart
