@@ -110,17 +110,20 @@ class Made(unittest.TestCase):
 
 
     def test_a_file_of_100_mb_is_refused_and_not_held(self):
+        # a process of its own asks the desk: what a child is said to hold at the most begins with what its parent held
+        asks = ("import resource, subprocess, sys\n"
+                "asked = subprocess.run(['./desk', sys.argv[1]], stdout=subprocess.PIPE, universal_newlines=True)\n"
+                "print(asked.returncode, resource.getrusage(resource.RUSAGE_CHILDREN).ru_maxrss)\n"
+                "print(asked.stdout, end='')\n")
         with tempfile.NamedTemporaryFile(suffix=".sheet") as file:
             file.truncate(100 * 1000 * 1000)
-            asked = subprocess.Popen(["./desk", file.name], cwd=TOP, stdout=subprocess.PIPE, universal_newlines=True)
-            said = asked.stdout.read()
-            asked.stdout.close()
-            # of the desk or of the program that it asks, whichever held more
-            _, ended, used = os.wait4(asked.pid, 0)
-            asked.returncode = os.WEXITSTATUS(ended)
-        self.assertEqual((said.splitlines()[0], asked.returncode), (
+            told = subprocess.run([sys.executable, "-c", asks, file.name], cwd=TOP, stdout=subprocess.PIPE,
+                                  universal_newlines=True, check=True).stdout
+        counts, said = told.splitlines()[:2]
+        status, held = map(int, counts.split())
+        self.assertEqual((said, status), (
             "refused, number 1 at place 0: the file is longer than any sheet, and no record can be read at byte 0", 1))
-        self.assertLess(used.ru_maxrss, 80000)
+        self.assertLess(held, 80000)
 
 
 class Texts(unittest.TestCase):
