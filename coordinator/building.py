@@ -108,14 +108,20 @@ def listen(process, progress):
 @contextlib.contextmanager
 def started(words, lock):
     """A process with its own group, which ends with it; the lock lives as long as the group."""
-    with subprocess.Popen(words, cwd=programs.ROOT, stdin=subprocess.DEVNULL, stdout=subprocess.PIPE,
-                          stderr=subprocess.STDOUT, start_new_session=True, pass_fds=[lock]) as process:
-        try:
-            yield process
-        except BaseException:
-            os.killpg(process.pid, signal.SIGTERM)
-            process.wait()
-            raise
+    # no interrupt comes between its start and the `try` that ends it
+    mask = signal.pthread_sigmask(signal.SIG_BLOCK, [signal.SIGINT])
+    try:
+        with subprocess.Popen(words, cwd=programs.ROOT, stdin=subprocess.DEVNULL, stdout=subprocess.PIPE,
+                              stderr=subprocess.STDOUT, start_new_session=True, pass_fds=[lock]) as process:
+            try:
+                signal.pthread_sigmask(signal.SIG_SETMASK, mask)
+                yield process
+            except BaseException:
+                os.killpg(process.pid, signal.SIGTERM)
+                process.wait()
+                raise
+    finally:
+        signal.pthread_sigmask(signal.SIG_SETMASK, mask)
 
 
 def check(name, lock):

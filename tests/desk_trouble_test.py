@@ -251,7 +251,9 @@ class Builds(Folder):
                 % (TOP, self.folder)]
 
     def start(self):
+        # a job in the background is started deaf to interrupts, and would hand that on
         return subprocess.Popen(self.script(), stderr=subprocess.PIPE, universal_newlines=True,
+                                preexec_fn=lambda: signal.signal(signal.SIGINT, signal.SIG_DFL),
                                 env=dict(os.environ, PATH=self.path("kit") + ":" + os.environ["PATH"]))
 
     def test_the_first_build_says_how_far_it_is(self):
