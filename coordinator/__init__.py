@@ -2,4 +2,4 @@
 words, tables, JSON and pictures, and decides nothing. The command `./desk` starts it at main.py."""
 
 # CHANGELOG.md says what each brought
-VERSION = "0.6"
+VERSION = "0.7"

@@ -20,9 +20,10 @@ def said_of(hydrants, one, several):
 
 
 class Answer:
-    def __init__(self, name, data, reply, limits=USUAL, whole=True, names=None):
-        """`whole` where `data` is all of the sheet; `names` those of the nodes, where they have some."""
-        self.name, self.limits, self.names = name, limits, names
+    def __init__(self, name, data, reply, limits=USUAL, whole=True, names=None, link_names=None, refusal=None):
+        """`whole` where `data` is all of the sheet; `names` those of the nodes, where they have some, and `link_names` those
+        of the links; `refusal` where a text was refused, so that there is no sheet."""
+        self.name, self.limits, self.names, self.link_names = name, limits, names, link_names
         # number and place of the verdict; the solve's own are the listing's
         self.verdict, self.place = reply.verdict, reply.place
         self.listing = Listing(reply.text)
@@ -30,14 +31,14 @@ class Answer:
         found, _ = sheet_bounds.records(data)
         self.nodes = [fields for _, mark, fields in found if mark == b"ND"]
         self.links = [fields for _, mark, fields in found if mark == b"LK"]
-        give_names(self.nodes, self.links, names)
+        give_names(self.nodes, self.links, names, link_names)
         self.entries = [(mark, int(number)) for mark, number in
                         (entry.split(" ") for entry in self.listing.record)]
         self.changes = causes.changes(self.entries)
-        self.refusal = None if self.solved else refusals.explain(
-            data, self.listing.number, self.listing.place, whole, names)
-        # refusals up to 5 may have no options to read
-        self.units = None if 1 <= self.listing.number <= 5 else Units(found[0][2]["unit"])
+        self.refusal = None if self.solved else refusal or refusals.explain(
+            data, self.listing.number, self.listing.place, whole, names, link_names)
+        # refusals up to 5 may have no options to read, and those of a text have no sheet
+        self.units = Units(found[0][2]["unit"]) if self.listing.number in (0, 6, 7, 8) else None
         self.undetermined = self.find_undetermined()
         # the two pressures that demand gives way between, or None
         self.pd = next((fields for _, mark, fields in found if mark == b"PD"), None)
@@ -46,6 +47,8 @@ class Answer:
         self.notes = notes.notes(self)
         # the nodes that were asked for, or None where all of it is told
         self.at = None
+        # the sections that an EPANET text was read without
+        self.left_out = ()
 
     def find_undetermined(self):
         """The verdict says whether there are any, save where it is about a repair."""
@@ -103,8 +106,7 @@ class Answer:
 
     def first_line(self):
         if not self.solved:
-            return "refused, number %d at place %d: %s" % (
-                self.refusal.number, self.refusal.place, self.refusal.why)
+            return "refused, number %d at %s: %s" % (self.refusal.number, self.refusal.where, self.refusal.why)
         line = "solved in " + counted(self.listing.trials, "trial") + self.short_words()
         return "%s; %s" % ((line, FOR_SALE) if self.may_be_sold else
                            ("%s, but %s" % (line, "; ".join(self.doubts())), NOT_FOR_SALE))

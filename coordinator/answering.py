@@ -4,7 +4,7 @@ import os
 from . import (as_json, bookings, evening, evening_out, files, pages, pictures, schemes, sheet_bounds, touching,
                unsettled)
 from .answer import BAD_USE, Answer, gravest
-from .asking import NotToBeHad
+from .asking import NotToBeHad, of_listing
 from .files import BadUse
 from .schemes import BadText
 from .sheet_text import Mistake
@@ -33,12 +33,20 @@ class Round:
         # why there is no program to ask, once this is known
         self.no_program = None
 
-    def answer(self, name):
-        given = schemes.read(name)
+    def reply(self, given):
+        """What the program says of a scheme; a text that was refused has that for its listing."""
+        if given.refusal is not None:
+            return of_listing("A %d %d 0 0 0\n" % (given.refusal.number, given.refusal.place))
         if self.no_program:
             raise self.no_program
-        (reply,) = self.ask([given.path or given.data], self.limits)
-        answer = Answer(given.name, given.data, reply, self.limits, given.path is None, given.names)
+        (found,) = self.ask([given.path or given.data], self.limits)
+        return found
+
+    def answer(self, name):
+        given = schemes.read(name, self.options.leave_out)
+        answer = Answer(given.name, given.data, self.reply(given), self.limits, given.path is None, given.names,
+                        given.link_names, given.refusal)
+        answer.left_out = given.left_out
         if answer.listing.number == unsettled.USED_UP:
             answer.refusal.why += unsettled.words(answer, self.ask(unsettled.coarser(given.data), self.limits))
         if answer.solved and self.options.at:
@@ -110,22 +118,22 @@ def table_of(name, given):
         raise BadUse("%s: %s" % (files.shown(name), mistake)) from mistake
 
 
-def judged_hours(options, limits, ask):
+def judged_hours(options, limits, ask_rows):
     """The table and its hours, judged."""
     (scheme,), name = options.files, options.bookings
-    given = schemes.read(scheme)
+    given = schemes.read(scheme, options.leave_out).unless_refused()
     table = table_of(name, given)
     try:
-        return table, evening.evening(given, table, limits, ask)
+        return table, evening.evening(given, table, limits, ask_rows)
     except NotToBeHad as error:
         raise BadUse(str(error)) from error
 
 
-def answer_bookings(options, limits, ask):
+def answer_bookings(options, limits, ask_rows):
     """The exit status: of the hours the gravest, and 2 where a line has a mistake."""
     (scheme,), name = options.files, options.bookings
     try:
-        table, found = judged_hours(options, limits, ask)
+        table, found = judged_hours(options, limits, ask_rows)
     except BadUse as error:
         tell(error)
         put(as_json.document([Unanswered(scheme, str(error))]) if options.json else "")

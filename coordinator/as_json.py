@@ -1,7 +1,7 @@
 """An answer for a program; docs/DESK.md says what each key holds."""
 import json
 
-from . import causes, notes, touching
+from . import causes, inp_sections, notes, touching
 from .answer import Answer, entry_words
 from .network import HOLDS, in_service
 from .sheet_format import LINK_KINDS, NODE_KINDS, STATUSES, bits
@@ -26,7 +26,18 @@ def refusal(answer):
     return {
         "meaning": r.meaning, "why": r.why, "mend": r.mend, "record": r.record, "offset": r.offset,
         "fields": [{"field": name, "value": safe(value), "must_be": must} for name, value, must in r.fields],
+        "holds": r.holds, "sections": [in_the_way(section) for section in r.sections],
     }
+
+
+def in_the_way(section):
+    """A section of an EPANET text that is not carried."""
+    return dict(section._asdict(), may_be_left_out=section.section in inp_sections.WITHOUT,
+                words=inp_sections.words(section.section))
+
+
+def left_out(sections):
+    return [section._asdict() for section in sections]
 
 
 def node(answer, i):
@@ -57,7 +68,8 @@ def giving_way(answer):
 def link(answer, i):
     fields, flow, status = answer.links[i], answer.listing.flows[i], answer.listing.statuses[i]
     names = fields.get("names", (None, None))
-    found = {"link": i, "kind": LINK_KINDS[fields["kind"]], "start": fields["start"], "end": fields["end"],
+    found = {"link": i, "name": fields.get("name"), "kind": LINK_KINDS[fields["kind"]],
+             "start": fields["start"], "end": fields["end"],
              "start_name": names[0], "end_name": names[1], "in_service": in_service(fields, answer.nodes),
              "freed": i in answer.freed, "check_valve_holds": notes.check_holds(answer, i),
              "status": STATUSES[status], "status_in_sheet": STATUSES[fields["status"]],
@@ -122,7 +134,7 @@ def answer_keys(answer):
         "number": answer.listing.number, "place": answer.listing.place, "trials": answer.listing.trials,
         "freed": answer.freed, "grounded": answer.grounded, "undetermined": answer.undetermined,
         "record": [trial_entry(answer, trial, mark, number) for trial, (mark, number) in enumerate(answer.entries, 1)],
-        "refusal": None if answer.solved else refusal(answer),
+        "refusal": None if answer.solved else refusal(answer), "left_out": left_out(answer.left_out),
     }
     found.update(results(answer) if answer.solved else {})
     found.update(giving_way(answer) if answer.solved and answer.pd else {})

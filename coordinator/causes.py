@@ -2,6 +2,7 @@
 from collections import namedtuple
 
 from .sheet_format import LINK_KINDS
+from .words import a_node
 
 NAMES = ("none", "reverse flow", "inlet too low", "outlet too high", "reopened")
 
@@ -40,7 +41,8 @@ def deed(links, change):
 
 def words(links, change):
     """`the PRV at link 2 opened: its inlet fell below its setting`"""
-    return "the %s at link %d %s: %s" % (LINK_KINDS[links[change.link]["kind"]], change.link, *deed(links, change))
+    link = links[change.link]
+    return "the %s at %s %s: %s" % (LINK_KINDS[link["kind"]], a_node(change.link, link, "link"), *deed(links, change))
 
 
 def mark(links, change):

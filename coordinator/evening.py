@@ -4,11 +4,10 @@ from collections import namedtuple
 
 from . import sheet_bounds
 from .answer import BAD_USE, DOUBTFUL, Answer
+from .asking import MOST_ROWS, Evening
 from .network import JUNCTION
 from .sheet_format import record
 from .verdict import SOLD, TOO_LOW
-
-AT_A_TIME = 32
 
 # the lowest pressure that a booking needs, and the lowest node that has less of those in question, where it is known
 Unmet = namedtuple("Unmet", "least place")
@@ -20,6 +19,8 @@ class Judged:
 
     def __init__(self, hour, answer=None, unmet=None):
         self.hour, self.answer, self.unmet = hour, answer, unmet or {}
+        # the sections that an EPANET text was read without
+        self.left_out = ()
 
     @property
     def may_be_sold(self):
@@ -97,15 +98,16 @@ def questions(data, hour, limits):
     return found
 
 
-def ask_all(asked, ask):
-    """A reply for each question. How rows are put to the program is known here alone: each as a sheet, those with the same
-    limits in one call."""
+def ask_all(asked, ask_rows):
+    """A reply for each question. How rows are put to the program is known here alone: those with the same sheet and limits
+    are one evening, so many of them in a call."""
     alike, replies = {}, {}
     for number, question in enumerate(asked):
-        alike.setdefault(question.limits, []).append(number)
-    for limits, numbers in alike.items():
-        sheets = [with_row(asked[number].sheet, asked[number].row) for number in numbers]
-        replies.update(zip(numbers, ask(sheets, limits)))
+        alike.setdefault((question.sheet, question.limits), []).append(number)
+    parts = [numbers[first:first + MOST_ROWS] for numbers in alike.values() for first in range(0, len(numbers), MOST_ROWS)]
+    evenings = [Evening(asked[part[0]].sheet, asked[part[0]].limits, [asked[number].row for number in part]) for part in parts]
+    for part, told in zip(parts, ask_rows(evenings)):
+        replies.update(zip(part, told))
     return [replies[number] for number in range(len(asked))]
 
 
@@ -123,24 +125,28 @@ def unmet(hour, limits, replies):
     return found
 
 
-def judge(given, hours, limits, ask):
+def judge(given, hours, limits, ask_rows):
     """So many hours at most, judged: one question an hour, and for each further lowest pressure two more."""
     asked = [questions(given.data, hour, limits) for hour in hours]
-    replies = iter(ask_all([question for mine in asked for question in mine.values()], ask))
+    replies = iter(ask_all([question for mine in asked for question in mine.values()], ask_rows))
     judged = []
     for hour, mine in zip(hours, asked):
         told = {name: next(replies) for name in mine}
         first, reply = next(iter(mine.values())), next(iter(told.values()))
-        answer = Answer(hour.name, with_row(first.sheet, first.row), reply, first.limits, names=given.names)
+        answer = Answer(hour.name, with_row(first.sheet, first.row), reply, first.limits, names=given.names,
+                        link_names=given.link_names)
         judged.append(Judged(hour, answer, unmet(hour, limits, told) if answer.may_be_sold else None))
     return judged
 
 
-def evening(given, table, limits, ask):
+def evening(given, table, limits, ask_rows):
     """Every hour of a table, judged, in their order."""
     good = [hour for hour in table.hours.values() if not hour.mistakes]
     found = {}
-    for first in range(0, len(good), AT_A_TIME):
-        part = good[first:first + AT_A_TIME]
-        found.update(zip((hour.name for hour in part), judge(given, part, limits, ask)))
-    return [found.get(hour.name, Judged(hour)) for hour in table.hours.values()]
+    for first in range(0, len(good), MOST_ROWS):
+        part = good[first:first + MOST_ROWS]
+        found.update(zip((hour.name for hour in part), judge(given, part, limits, ask_rows)))
+    hours = [found.get(hour.name, Judged(hour)) for hour in table.hours.values()]
+    for judged in hours:
+        judged.left_out = given.left_out
+    return hours

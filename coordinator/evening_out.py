@@ -2,7 +2,8 @@
 import json
 import os
 
-from .as_json import numbers
+from .as_json import left_out, numbers
+from .inp_sections import left_out_words
 from .pictures import LETTER, LINE, box, document, text
 from .verdict import NOT_DRAWN, TOO_LOW
 from .words import NAME, counted, fixed, flow_figure, flow_words, pressure_words, quoted
@@ -48,11 +49,13 @@ def reason(judged):
 
 
 def page(evening):
-    """A line an hour."""
+    """A line an hour, and one that says what was left out of an EPANET text."""
     names = [quoted(judged.hour.name, NAME) for judged in evening]
     wide = max(map(len, names))
-    return "".join("%s  %-3s  %s\n" % (name.ljust(wide), word(judged), reason(judged))
-                   for name, judged in zip(names, evening))
+    lines = ["%s  %-3s  %s" % (name.ljust(wide), word(judged), reason(judged)) for name, judged in zip(names, evening)]
+    # of one scheme, so of every hour the same
+    lines += [left_out_words(evening[0].left_out)] if evening[0].left_out else []
+    return "".join(line + "\n" for line in lines)
 
 
 def booking_keys(judged, booking):
@@ -74,7 +77,8 @@ def hour_keys(judged):
              "mistakes": [{"line": line, "words": words} for line, words in judged.hour.mistakes],
              "verdict": None if answer is None else {"number": answer.verdict, "place": answer.place},
              "number": None if answer is None else answer.listing.number,
-             "bookings": [booking_keys(judged, booking) for booking in judged.hour.bookings]}
+             "bookings": [booking_keys(judged, booking) for booking in judged.hour.bookings],
+             "left_out": left_out(judged.left_out)}
     found.update(numbers(lowest_pressure_ft=answer.limits.lowest) if answer is not None else {"lowest_pressure_ft": None})
     return found
 

@@ -6,7 +6,7 @@ import sys
 
 from .words import escaped
 
-# more than any sheet (9,199 bytes) or text form needs
+# more than any sheet (9,199 bytes) or text needs
 MOST = 1 << 20
 STANDARD_INPUT = "-"
 
@@ -34,8 +34,13 @@ def beginning(file, name, path):
     if len(data) <= MOST:
         return Input(name, data)
     if path is None or not stat.S_ISREG(os.fstat(file.fileno()).st_mode):
-        raise BadUse("%s goes on after %d bytes, and the longest sheet has 9,199" % (shown(name), MOST))
+        raise BadUse("%s goes on after %d bytes: no text may be longer, and the longest sheet has 9,199" % (shown(name), MOST))
     return Input(name, data[:MOST], path)
+
+
+def looks_like_text(data):
+    """No sheet does: the upper byte of its trials is 0."""
+    return all(byte in b"\t\n\r\f" or byte >= 32 for byte in data[:64])
 
 
 def shown(name):
@@ -54,11 +59,19 @@ def read(name):
         raise BadUse("%s cannot be read: %s" % (shown(name), why(error))) from error
 
 
+def is_input(path, name):
+    """Whether a path leads to the file of this name, or to the one that standard input comes from; a terminal is none."""
+    if name != STANDARD_INPUT:
+        return os.path.samefile(path, name)
+    found = os.fstat(0)
+    return stat.S_ISREG(found.st_mode) and os.path.samestat(os.stat(path), found)
+
+
 def is_one_of(path, names):
     """Whether a path leads to one of these files, by whatever name or link."""
     for name in names:
         try:
-            if os.path.samefile(path, name):
+            if is_input(path, name):
                 return True
         except OSError:
             # one of them is not there

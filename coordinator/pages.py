@@ -1,5 +1,5 @@
 """An answer for a person."""
-from . import causes, notes, touching
+from . import causes, inp_sections, notes, touching
 from .answer import record_words
 from .drawn import pressure_range
 from .files import shown
@@ -113,9 +113,15 @@ def short_mark(answer, number):
     return "lacks %s of its setting" % pressure_words(answer.units, notes.lack(answer, number))
 
 
+def link_labels(answer, number):
+    """A link's number, its name or nothing, and its kind."""
+    link = answer.links[number]
+    return [str(number), quoted(link.get("name", ""), NAME), LINK_KINDS[link["kind"]]]
+
+
 def link_row(answer, number):
     link, listing = answer.links[number], answer.listing
-    return ([str(number), LINK_KINDS[link["kind"]]]
+    return (link_labels(answer, number)
             + [labels(answer, link[end])[-1] for end in ("start", "end")]
             + [flow_figure(answer.units, listing.flows[number]), STATUSES[listing.statuses[number]],
                link_marks(answer, number)])
@@ -123,8 +129,8 @@ def link_row(answer, number):
 
 def links(answer):
     ends = ["<start", "<end"] if answer.names else ["start", "end"]
-    header = ["link", "<kind"] + ends + ["flow " + answer.units.flow_name, "<status", "<"]
-    return table(header, [link_row(answer, i) for i in range(len(answer.links))])
+    header = ["link", "<name", "<kind"] + ends + ["flow " + answer.units.flow_name, "<status", "<"]
+    return filled(header, [link_row(answer, i) for i in range(len(answer.links))])
 
 
 def balance(answer):
@@ -167,10 +173,11 @@ def way_words(answer, node, touch):
 
 
 def touch_row(answer, node, touch):
-    return [str(touch.link), LINK_KINDS[answer.links[touch.link]["kind"]], "starts" if touch.starts_here else "ends",
-            answer.called(touch.other), flow_figure(answer.units, abs(touch.inflow)), way_words(answer, node, touch),
-            STATUSES[answer.listing.statuses[touch.link]], touching.set_to(answer, touch.link) or "",
-            link_marks(answer, touch.link, in_trials(answer, "freed", "VF", touch.link))]
+    return link_labels(answer, touch.link) + [
+        "starts" if touch.starts_here else "ends", answer.called(touch.other), flow_figure(answer.units, abs(touch.inflow)),
+        way_words(answer, node, touch), STATUSES[answer.listing.statuses[touch.link]],
+        touching.set_to(answer, touch.link) or "",
+        link_marks(answer, touch.link, in_trials(answer, "freed", "VF", touch.link))]
 
 
 def at_node(answer, number):
@@ -186,7 +193,7 @@ def at_node(answer, number):
     if not found:
         yield "  no link touches it"
         return
-    header = ["link", "<kind", "<here", "<other end", "flow " + answer.units.flow_name, "<", "<status", "<setting", "<"]
+    header = ["link", "<name", "<kind", "<here", "<other end", "flow " + answer.units.flow_name, "<", "<status", "<setting", "<"]
     yield from filled(header, [touch_row(answer, number, touch) for touch in found])
 
 
@@ -200,7 +207,17 @@ def refused(answer):
     lines = ["  means   " + refusal.meaning, "  mend    " + refusal.mend]
     if refusal.record is not None:
         lines.insert(1, "  record  %s, at byte %d of the sheet" % (refusal.record, refusal.offset))
-    return lines + section("Trials", record(answer))
+    if refusal.holds is not None:
+        lines.insert(1, "  line    " + refusal.holds)
+    return lines + section("Sections in the way", in_the_way(refusal.sections)) + section("Trials", record(answer))
+
+
+def in_the_way(sections):
+    """What each section that is not carried would be left out with."""
+    if sections:
+        yield from table(["<section", "line", "lines", "<without it"], [
+            [inp_sections.in_brackets(found.section), str(found.line), str(found.lines), inp_sections.words(found.section)]
+            for found in sections])
 
 
 def solved(answer):
@@ -222,4 +239,5 @@ def whole(answer):
 def page(answer, named):
     """Everything about one sheet, or about the nodes asked for; its name before the first line where there are several."""
     first = ("%s: " % shown(answer.name) if named else "") + answer.first_line()
-    return "\n".join([first] + (solved if answer.solved else refused)(answer)) + "\n"
+    left_out = ["  " + inp_sections.left_out_words(answer.left_out)] if answer.left_out else []
+    return "\n".join([first] + left_out + (solved if answer.solved else refused)(answer)) + "\n"

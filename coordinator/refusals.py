@@ -1,8 +1,8 @@
 """What a refusal means: the record, the field where it can be told, and what to mend."""
-from . import sheet_bounds
-from .schemes import looks_like_text
+from . import field_words, sheet_bounds
+from .files import looks_like_text
 from .sheet_format import BYTES, LINK_KINDS
-from .words import counted, give_names, link_words, node_words
+from .words import Units, apart, counted, give_names, link_words, node_words, pressure_words
 
 MEANINGS = {
     1: "a record cannot be read as the layout says",
@@ -13,21 +13,32 @@ MEANINGS = {
     6: "the network is singular even after its repair",
     7: "a head or a flow ran away",
     8: "the trials were used up without an answer",
+    10: "a line of the text cannot be read",
+    11: "a line of the text names what is not known",
+    12: "the text has data in a section that is not carried",
 }
 TITLES = {b"OP": "the options record", b"PD": "the pressures record (PD)", b"ND": "node", b"LK": "link"}
 ROOMS = ("heads", "demands", "flows", "statuses", "record", "scratch")
+# what is refused before there is a sheet; the place is the text's line
+OF_TEXTS = (10, 11, 12)
 # from where on a place of refusal 7 names a link, and from where what a node draws; below, a node's head
 FIRST_LINK_PLACE, FIRST_DRAWN_PLACE = 64, 256
 
 
 class Refusal:
     """`why` says what is wrong, the record named; `mend` what to do; `record` and `offset` which record and
-    where it stands, or None; `fields` holds (name, value, what it must be) of each field at fault."""
+    where it stands, or None; `fields` holds (name, value, what it must be) of each field at fault. Of an EPANET text
+    `holds` is what the line holds, and `sections` are those that stand in the way."""
 
-    def __init__(self, number, place, why, mend, record=None, offset=None, fields=()):
+    def __init__(self, number, place, why, mend, record=None, offset=None, fields=(), holds=None, sections=()):
         self.number, self.place, self.why, self.mend = number, place, why, mend
         self.record, self.offset, self.fields = record, offset, list(fields)
+        self.holds, self.sections = holds, list(sections)
         self.meaning = MEANINGS.get(number, "a number that this desk does not know")
+
+    @property
+    def where(self):
+        return "%s %d" % ("line" if self.number in OF_TEXTS else "place", self.place)
 
 
 def title(mark, number, fields=None):
@@ -62,7 +73,7 @@ def unreadable(data, place):
             "write the sheet anew, whole; it may have been cut in copying", title(mark, number), place)
     if place == 0 and looks_like_text(data):
         return Refusal(1, place, "the file is text and not a sheet",
-                       "give its name another ending than .sheet: the text form is solved as it is")
+                       "give its name another ending than .sheet: the text form, or an EPANET text, is solved as it is")
     if mark == b"PD":
         return Refusal(1, place, "%s stands %s: a PD must stand straight after the OP, once" % (
             title(mark, number), "there a second time" if number else "out of order"),
@@ -89,9 +100,16 @@ def wrong_count(data, place):
                    "add what is missing" if count == 0 else "split the scheme, or leave links and nodes out")
 
 
-def at_record(data, place):
-    """(mark, number, fields) of the record at an offset, and the fields of every node."""
+def named_records(data, names):
+    """The records with what their nodes and links are called; `names` are those of both."""
     found, _ = sheet_bounds.records(data)
+    give_names(*([fields for _, m, fields in found if m == mark] for mark in (b"ND", b"LK")), *names)
+    return found
+
+
+def at_record(data, place, names):
+    """(mark, number, fields) of the record at an offset, and the fields of every node."""
+    found = named_records(data, names)
     nodes = [fields for _, mark, fields in found if mark == b"ND"]
     for at, mark, number, fields in numbered(found):
         if at == place:
@@ -103,16 +121,25 @@ def in_words(name):
     return name.replace("_", " ")
 
 
-def fault_words(fields, name, must):
-    if name == "required" and -sheet_bounds.LIMIT <= fields[name] < fields["minimum"]:
-        return "required pressure (%r ft) is below minimum pressure (%r ft)" % (fields["required"], fields["minimum"])
-    return "%s is %r but must be %s" % (in_words(name), fields[name], must)
+def fault_words(unit, fields, name, must):
+    if name == "required" and -sheet_bounds.LIMIT <= fields[name] < fields["minimum"] <= sheet_bounds.LIMIT:
+        return "required pressure, %s, is below minimum pressure, %s" % pressures(Units(unit), fields)
+    return "%s %s" % (in_words(name), field_words.fault(unit, fields, name, must))
 
 
-def of_fields(number, place, mark, count, fields, faults):
-    record = title(mark, count, fields)
+def pressures(units, fields):
+    """The two of a PD, with as many decimals as show that they differ."""
+    pair = fields["required"], fields["minimum"]
+    digits = apart(*(x * units.per_foot for x in pair))
+    return tuple(pressure_words(units, x, digits) for x in pair)
+
+
+def of_fields(number, place, data, record_fields, faults):
+    """`record_fields` are the mark, the number among its kind and the fields of the record at fault."""
+    mark, count, fields = record_fields
+    record, unit = title(mark, count, fields), sheet_bounds.records(data)[0][0][2]["unit"]
     told = [(name, fields[name], must) for name, must in faults]
-    wrong = [fault_words(fields, name, must) for name, must in faults]
+    wrong = [fault_words(unit, fields, name, must) for name, must in faults]
     mend = "correct its %s where the sheet was made; ./desk --explain SHEET shows the whole record" % (
         " and its ".join(in_words(name) for name, _, _ in told))
     if not told:
@@ -120,15 +147,15 @@ def of_fields(number, place, mark, count, fields, faults):
     return Refusal(number, place, "%s: %s" % (record, "; ".join(wrong)), mend, record, place, told)
 
 
-def out_of_bounds(data, place):
-    mark, count, fields, nodes = at_record(data, place)
-    return of_fields(3, place, mark, count, fields, sheet_bounds.faults(mark, fields, len(nodes)))
+def out_of_bounds(data, place, names):
+    mark, count, fields, nodes = at_record(data, place, names)
+    return of_fields(3, place, data, (mark, count, fields), sheet_bounds.faults(mark, fields, len(nodes)))
 
 
-def wrong_ends(data, place):
-    mark, count, fields, nodes = at_record(data, place)
+def wrong_ends(data, place, names):
+    mark, count, fields, nodes = at_record(data, place, names)
     fault = sheet_bounds.end_fault(fields, nodes)
-    return of_fields(4, place, mark, count, fields, [fault] if fault else [])
+    return of_fields(4, place, data, (mark, count, fields), [fault] if fault else [])
 
 
 def too_little_room(data, place):
@@ -138,9 +165,7 @@ def too_little_room(data, place):
 
 def record_of(data, mark, number, names):
     """A record in words and its offset, by its number among its kind."""
-    found, _ = sheet_bounds.records(data)
-    give_names(*([fields for _, m, fields in found if m == kind] for kind in (b"ND", b"LK")), names)
-    offset, fields = [(at, fields) for at, m, fields in found if m == mark][number]
+    offset, fields = [(at, fields) for at, m, fields in named_records(data, names) if m == mark][number]
     return title(mark, number, fields), offset
 
 
@@ -185,7 +210,7 @@ EXPLAIN = {1: unreadable, 2: wrong_count, 3: out_of_bounds, 4: wrong_ends, 5: to
            6: singular, 7: ran_away, 8: used_up}
 
 # those that tell of a node or a link by its name
-NAMED = (6, 7)
+NAMED = (3, 4, 6, 7)
 
 
 def of_a_long_file(number, place):
@@ -196,12 +221,12 @@ def of_a_long_file(number, place):
                    "name a sheet: the longest has 9,199 bytes")
 
 
-def explain(data, number, place, whole=True, names=None):
-    """`data` may be a long file's beginning alone; then it is not `whole`. A sheet with names has no refusal below 6."""
+def explain(data, number, place, whole=True, names=None, link_names=None):
+    """`data` may be a long file's beginning alone; then it is not `whole`."""
     if not whole:
         return of_a_long_file(number, place)
     try:
-        return EXPLAIN[number](data, place, names) if number in NAMED else EXPLAIN[number](data, place)
+        return EXPLAIN[number](data, place, *([(names, link_names)] if number in NAMED else []))
     except (IndexError, KeyError, ValueError):
         # the program decides; what it says is told even where it cannot be followed here
         return Refusal(number, place, "what is wrong there cannot be told",

@@ -60,13 +60,18 @@ def bounds(mark, fields, nodes):
     ]
 
 
+def finite(unit=None):
+    """What every float must be, in words."""
+    return "a finite number of at most 2^40 %sin magnitude" % (unit + " " if unit else "")
+
+
 def faults(mark, fields, nodes):
     """(field, what it must be) for each field outside its bounds or codes, in the record's order."""
     wrong = {name: must for name, fits, must in bounds(mark, fields, nodes) if not fits}
     for name, value in fields.items():
         # not "above the limit", which is false for a NaN
         if isinstance(value, float) and not abs(value) <= LIMIT:
-            wrong[name] = "a finite number of at most 2^40 in magnitude"
+            wrong[name] = finite()
     return [(name, wrong[name]) for name in fields if name in wrong]
 
 

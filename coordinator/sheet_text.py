@@ -3,7 +3,7 @@ docs/SHEETS.md describes it; text_of_sheet.py writes it."""
 import math
 import re
 
-from . import sheet_bounds
+from . import field_words, sheet_bounds
 from .sheet_format import LINK_KINDS, NODE_KINDS, PER_CFS, STATUSES, UNITS, Sheet
 from .words import BAR_PER_METRE, METRES_PER_FOOT, PSI_PER_FOOT, quoted
 
@@ -179,7 +179,7 @@ class Scheme:
         # in which line each kind stood that may be there once
         self.once = {}
         self.numbers, self.lines = {}, {b"OP": [1], b"PD": [], b"ND": [], b"LK": []}
-        self.waiting, self.joined = [], []
+        self.waiting = []
 
     def only(self, kind, mark, line):
         if kind in self.once:
@@ -236,7 +236,6 @@ class Scheme:
             if name not in self.numbers:
                 raise Mistake("no node is called " + quoted(name))
         self.lines[b"LK"].append(line)
-        self.joined.append((kind, start, end))
         self.sheet.link(kind, self.numbers[start], self.numbers[end], **fields)
 
     def bounds(self):
@@ -251,7 +250,8 @@ class Scheme:
         for mark, found in ((b"OP", [self.sheet.op]), (b"PD", [self.sheet.pd]), (b"ND", nodes), (b"LK", links)):
             for line, fields in zip(self.lines[mark], found):
                 for name, must in sheet_bounds.faults(mark, fields, len(nodes)):
-                    yield line, "%s is %r but must be %s" % (name.replace("_", "-"), fields[name], must)
+                    yield line, "%s %s" % (name.replace("_", "-"), field_words.fault(
+                        self.sheet.op["unit"], fields, name, must))
         for line, fields in zip(self.lines[b"LK"], links):
             fault = sheet_bounds.end_fault(fields, nodes)
             if fault:
@@ -261,13 +261,6 @@ class Scheme:
     def names(self):
         """Of the nodes, in their order."""
         return list(self.numbers)
-
-    def shown(self):
-        """Which number each name got."""
-        for (name, number), node in zip(self.numbers.items(), self.sheet.nodes):
-            yield "node %d  %s %s" % (number, NODE_KINDS[node["kind"]], quoted(name))
-        for number, (kind, start, end) in enumerate(self.joined):
-            yield "link %d  %s %s -> %s" % (number, kind, quoted(start), quoted(end))
 
 
 def attempt(mistakes, line, do, *args):

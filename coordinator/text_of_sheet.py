@@ -81,27 +81,35 @@ def options(op, flow_unit, tried):
         if not words.startswith("  accuracy"))
 
 
-def node_line(number, node, tried):
+def node_line(name, node, tried):
     kind = NODE_KINDS[node["kind"]]
-    return "%s  n%d%s" % (kind, number, "".join([*figures(kind, node, tried), *flags(kind, node)]))
+    return "%s  %s%s" % (kind, name, "".join([*figures(kind, node, tried), *flags(kind, node)]))
 
 
-def link_line(link, tried):
+def link_line(link, names, tried):
     kind = LINK_KINDS[link["kind"]]
     words = [*figures(kind, link, tried), *flags(kind, link), *status(kind, link)]
-    return "%s  n%d -> n%d%s" % (kind, link["start"], link["end"], "".join(words))
+    return "%s  %s -> %s%s" % (kind, names[link["start"]], names[link["end"]], "".join(words))
 
 
-def text_of(data):
-    """The nodes are called n0, n1 and so on."""
+def can_be_written(name):
+    """As a word of the text form that a terminal shows; what parts words there, but for the space, is not printable."""
+    return name.isprintable() and "#" not in name
+
+
+def text_of(data, names=None):
+    """The nodes are called n0, n1 and so on, where they have no names that the form can hold."""
     if sheet_bounds.reading(data)[0] != "G":
         raise NotGood("the sheet would be refused: number %d at place %d" % sheet_bounds.reading(data)[1:])
     found, _ = sheet_bounds.records(data)
+    nodes = [fields for _, mark, fields in found if mark == b"ND"]
+    if not names or not all(map(can_be_written, names)):
+        names = ["n%d" % number for number in range(len(nodes))]
     op = found[0][2]
     unit = UNITS[op["unit"]]
     tried = own_units(unit)
     lines = list(options(op, unit, tried))
     lines += ["pressures" + "".join(figures("pressures", fields, tried)) for _, mark, fields in found if mark == b"PD"]
-    lines += [node_line(i, node, tried) for i, node in enumerate(f for _, mark, f in found if mark == b"ND")]
-    lines += [link_line(link, tried) for _, mark, link in found if mark == b"LK"]
+    lines += [node_line(name, node, tried) for name, node in zip(names, nodes)]
+    lines += [link_line(link, names, tried) for _, mark, link in found if mark == b"LK"]
     return "\n".join(lines) + "\n"

@@ -43,7 +43,7 @@ def changes(answer, late, early):
     greatest = max(gaps, default=0.0)
     if greatest > 0:
         moved = [i for i, gap in enumerate(gaps) if gap >= WORTH_NAMING * greatest]
-        others = "%s moved, most that of " % numbered("link", moved) if moved[1:] else ""
+        others = "%s moved, most that of " % numbered("link", moved, answer.link_names) if moved[1:] else ""
         found.append("the flow of %s%s%s by %s" % (others, answer.link(gaps.index(greatest)), "," if others else " moved",
                                                    small_flow(answer.units, greatest)))
     return found

@@ -116,16 +116,16 @@ def numbered(word, numbers, names=None):
     return "%s%s %s" % (word, "" if len(numbers) == 1 else "s", listed(parts))
 
 
-def give_names(nodes, links, names):
-    """Puts the names of the nodes, where there are any, beside the fields of the records."""
-    for node, name in zip(nodes, names or ()):
-        node["name"] = name
+def give_names(nodes, links, names, link_names=None):
+    """Puts the names of the nodes and of the links, where there are any, beside the fields of the records."""
+    for record, name in [*zip(nodes, names or ()), *zip(links, link_names or ())]:
+        record["name"] = name
     for link in links if names else ():
         link["names"] = names[link["start"]], names[link["end"]]
 
 
 def a_node(number, node, word="node"):
-    """`node 3`, or `node 3 (field)`."""
+    """`node 3`, or `node 3 (field)`; a link likewise, with its word."""
     return "%s %d" % (word, number) + (" (%s)" % quoted(node["name"], NAME) if "name" in node else "")
 
 
@@ -136,8 +136,9 @@ def node_words(number, node):
 
 
 def ends(link):
-    """`2 -> 3`, or `lower -> field`."""
-    return "%s -> %s" % tuple(quoted(name, NAME) for name in link.get("names", (str(link["start"]), str(link["end"]))))
+    """`2 -> 3`, or `lower -> field`; behind the link's own name where it has one: `reducer, lower -> field`."""
+    found = "%s -> %s" % tuple(quoted(name, NAME) for name in link.get("names", (str(link["start"]), str(link["end"]))))
+    return "%s, %s" % (quoted(link["name"], NAME), found) if "name" in link else found
 
 
 def link_words(number, link):

@@ -1,13 +1,14 @@
 /* The network solver, as C calls it: link with libdesk.a (tools/library.py makes it).
 
    A buffer is its start and its length in entries. An empty buffer may have any start, a null one too.
-   Buffers must not overlap one another, the sheet or a state. Nothing is kept between two calls but what the
+   Buffers must not overlap one another, the sheet, the text or a state. Nothing is kept between two calls but what the
    caller keeps, and nothing but what is lent is written: several threads may call at the same time, each with
-   buffers and a state of its own (several may lend the same sheet).
+   buffers and a state of its own (several may lend the same sheet or text).
 
-   Stack that a call needs below its caller's frame, whatever the sheet: 20 KiB for desk_solve, 32 KiB for
-   desk_verdict, 44 KiB for desk_evening and desk_evening_verdict (19,903, 31,135 and 41,023 bytes at most were
-   measured in the x86-64 library). A thread needs some KiB more for itself: lend it 64 KiB. */
+   Stack that a call needs below its caller's frame, whatever the sheet or the text: 20 KiB for desk_solve, 32 KiB for
+   desk_verdict, 44 KiB for desk_evening and desk_evening_verdict, 84 KiB for desk_text (19,903, 31,135, 41,023 and
+   82,071 bytes at most were measured in the x86-64 library). A thread needs some KiB more for itself: lend it 64 KiB,
+   and 128 KiB where it calls desk_text. */
 #ifndef DESK_H
 #define DESK_H
 
@@ -223,6 +224,32 @@ static inline void desk_trial_state(const uint8_t *sheet, size_t sheet_length, d
                s->counts, heads, heads_length, demands, demands_length, flows, flows_length, statuses,
                statuses_length, record, record_length, scratch, scratch_length, told);
 }
+
+/* An EPANET input text made into a sheet, and the names of its nodes and links. Any bytes of any length are taken;
+   docs/INP.md says what of a text is read, and what becomes of it.
+
+   Lent, with the bytes that always suffice (47 + 45 * 512 + 49 * 1,024, and 32 for each of 1,536 names):
+     sheet  73,263   on 0: the sheet, from the first byte on; desk_solve takes it as it is, with the length told, and
+                     solves or refuses it as any other (512 nodes and 1,024 links are read here, 64 and 128 solved)
+     names  49,152   on 0: the names of the nodes, then those of the links, each in the order of the sheet and with a
+                     newline behind it; no name holds a newline
+
+   counts, told in any case: number, place, nodes, links, bytes of the sheet, bytes of the names
+
+     number                                                          place
+     0   read                                                        0
+     10  a line cannot be read                                       the line, from 1
+     11  a line has a name that is not known                         the line, from 1
+     12  a data line of a section that is not carried                the line, from 1
+     5   sheet or names too short                                    6
+   The earliest line counts, and in one line 10 before 11; 5 is told of a text that is not refused by a line.
+
+   Changed: on 0 as many bytes of sheet and names as are told; those behind them stay. Else nothing but counts, whose
+   last four are 0. */
+void desk_text(const uint8_t *text, size_t text_length,
+               uint8_t *sheet, size_t sheet_length,
+               uint8_t *names, size_t names_length,
+               uint64_t counts[6]);
 
 #ifdef __cplusplus
 }

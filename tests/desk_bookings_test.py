@@ -40,7 +40,7 @@ def fields_of(data, mark=b"ND"):
 
 
 class Program:
-    """Stands in for `verdict`: each node's head is given in metres, and what is too low is verdict 8."""
+    """Stands in for `evening_verdict`: each node's head is given in metres, and what is too low is verdict 8."""
 
     def __init__(self, refused=(), moves=False, **heads):
         self.heads = [heads.get(name, 60.0) * FEET for name in NAMES]
@@ -59,9 +59,9 @@ class Program:
         lines += ["L 0 %016x 1" % bits(0.0), "B %016x %016x %016x" % ((bits(0.0),) * 3)]
         return Reply(8 if low else 0, low[0] if low else 0, "\n".join(lines) + "\n")
 
-    def ask(self, sheets, limits):
-        self.calls.append((len(sheets), limits))
-        return [self.reply(data, limits) for data in sheets]
+    def ask_rows(self, asked):
+        self.calls += [(len(one.rows), one.limits) for one in asked]
+        return [[self.reply(evening.with_row(one.sheet, row), one.limits) for row in one.rows] for one in asked]
 
 
 class Folder(unittest.TestCase):
@@ -83,7 +83,8 @@ class Folder(unittest.TestCase):
         program = program or Program()
         with contextlib.redirect_stdout(out), contextlib.redirect_stderr(err):
             try:
-                status = main.main(["--bookings", self.path("b.csv", table), *args, scheme or self.scheme], program.ask)
+                status = main.main(["--bookings", self.path("b.csv", table), *args, scheme or self.scheme],
+                                   ask_rows=program.ask_rows)
             except SystemExit as end:
                 status = end.code
         return status, out.getvalue(), err.getvalue().replace(self.path("b.csv"), "b.csv")
@@ -178,6 +179,13 @@ class Asking(Folder):
         self.desk("1,mill,1 L/s,10m\n1,ridge,1 L/s,10m\n2,mill,1 L/s\n", "--least", "10m", program=program)
         self.assertEqual(program.calls, [(2, USUAL._replace(lowest=10 / 0.3048))])
 
+    def test_hours_that_need_another_pressure_are_evenings_of_their_own(self):
+        program = Program()
+        self.desk("1,mill,1 L/s\n2,mill,1 L/s,10m\n3,mill,1 L/s\n3,ridge,1 L/s,10m\n", program=program)
+        needs = USUAL._replace(lowest=10 / 0.3048)
+        # hours 1 and 3; hours 2 and 3 at 10 m; and hour 3 once more, with the mill out of question
+        self.assertEqual(program.calls, [(2, USUAL), (2, needs), (1, needs)])
+
     def hour(self, table, **heads):
         status, out, _ = self.desk(table, program=Program(**heads))
         return status, out.strip()
@@ -233,7 +241,7 @@ class Asking(Folder):
     def test_no_program(self):
         class Gone:
             @staticmethod
-            def ask(sheets, limits):
+            def ask_rows(asked):
                 raise NotToBeHad("no program")
         self.assertEqual(self.desk("1,mill,1 L/s\n", program=Gone), (2, "", "desk: no program\n"))
 

@@ -28,7 +28,7 @@ class Help(unittest.TestCase):
         for option in options:
             self.assertIn(option, self.help)
             self.assertIn(option, self.paper)
-        for option in re.findall(r"(?<![\w-])--[a-z]+", self.paper):
+        for option in re.findall(r"(?<![\w-])--[a-z][a-z-]*", self.paper):
             self.assertIn(option, options | {"--help"})
 
     def test_units_and_limits(self):

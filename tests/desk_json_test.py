@@ -81,6 +81,26 @@ class Schema(unittest.TestCase):
         self.assertEqual((status, [one["error"] for one in self.fits(out)][:2], gone.call_count), (2, ["no program"] * 2, 1))
         self.assertEqual(err.splitlines()[0], "desk: no program")
 
+    def test_one_entry_where_the_arguments_are_wrong(self):
+        june = example("june")
+        for args, words in ((["--json", "--colour", june], "unrecognized arguments: --colour"),
+                            (["--least", "ten m", "--json", june], "argument --least: ten m is no number"),
+                            (["--json", "--leave-out", "PUMPS", june, "/none"], "argument --leave-out: [PUMPS] changes the hydraulics"),
+                            (["--json=yes", june], "argument --json: "), (["--json"], "name a scheme"),
+                            (["--json", "--explain", june], "--explain goes alone"),
+                            (["--bookings", "week.csv", "--json", june, june], "--bookings goes with one scheme"),
+                            (["--json", "--sheet", "a.txt", "-o", "a.sheet"], "--sheet and --text go with -o alone")):
+            with self.subTest(args):
+                status, out, err = desk(*args)
+                (found,) = self.fits(out)
+                self.assertEqual((status, found["sheet"], found["exit_status"], found["may_be_sold"]), (2, None, 2, False))
+                self.assertIn(words, found["error"])
+                self.assertEqual(err.splitlines()[-1], "desk: error: " + found["error"])
+
+    def test_and_none_for_who_did_not_ask_for_it(self):
+        for args in (["--colour", example("june")], ["--explain", "--least", "1m", "--", "--json"]):
+            self.assertEqual(desk(*args)[:2], (2, ""))
+
 
 if __name__ == "__main__":
     unittest.main()

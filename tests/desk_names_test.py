@@ -71,12 +71,12 @@ class Direct(Folder):
             self.assertIn("standard input is closed", desk("-")[2])
 
     def test_the_ending_decides_and_else_what_stands_in_it(self):
-        self.assertTrue(schemes.is_text("a.txt", b"\0\0"))
-        self.assertFalse(schemes.is_text("a.sheet", b"junction"))
-        self.assertTrue(schemes.is_text("-", "OPTIONS # bæck".encode()))
+        self.assertEqual(schemes.form("a.txt", b"\0\0"), schemes.TEXT)
+        self.assertEqual(schemes.form("a.sheet", b"junction"), schemes.SHEET)
+        self.assertEqual(schemes.form("-", "OPTIONS # bæck".encode()), schemes.TEXT)
         for case in sheets.stored():
             if sheet_bounds.reading(case.data)[0] == "G":
-                self.assertFalse(schemes.is_text("a", case.data), case.name)
+                self.assertEqual(schemes.form("a", case.data), schemes.SHEET, case.name)
         self.assertIn("another ending than .sheet", refusals.explain(JUNE, 1, 0).mend)
 
     def test_mistakes_are_told_and_the_others_answered(self):

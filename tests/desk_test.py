@@ -15,6 +15,7 @@ import sys
 import tempfile
 import unittest
 import xml.etree.ElementTree as ElementTree
+from unittest import mock
 
 TOP = os.path.dirname(os.path.dirname(os.path.abspath(__file__)))
 sys.path[:0] = [TOP, os.path.join(TOP, "tools")]
@@ -584,6 +585,28 @@ class Program(unittest.TestCase):
         finally:
             asking.output = output
 
+    def test_a_question_about_an_evening(self):
+        asked = asking.evening_question(asking.Evening(b"sheet", Limits(1.0, 2.0, 0.5), [(0.0, 2.0), (1.0, 0.5)]))
+        self.assertEqual(asked.hex(), "000000000000f03f" "0000000000000040" "000000000000e03f" "02000000" "05000000" + b"sheet".hex()
+                         + "04000000" "0000000000000000" "0000000000000040" "000000000000f03f" "000000000000e03f")
+
+    def rows(self, text, count=2):
+        with mock.patch.object(asking, "output", lambda name, data: {"evening_verdict": text}[name]):
+            return asking.ask_rows([asking.Evening(b"sheet", USUAL, [(0.0,)] * count)])
+
+    def test_replies_to_rows(self):
+        rows = "R 0\nV 0 0\nA 0 0 1 0 0\nT OK 0\nR 1\nV 1 8\nA 8 40 0 0 0\n--\n"
+        self.assertEqual(self.rows(rows), [[(0, 0, "A 0 0 1 0 0\nT OK 0\n"), (1, 8, "A 8 40 0 0 0\n")]])
+        self.assertEqual(self.rows("A 3 29 0 0 0\n--\n"), [[(1, 3, "A 3 29 0 0 0\n")] * 2])
+
+    def test_rows_that_cannot_be_read_are_told(self):
+        row = "V 0 0\nA 0 0 1 0 0\n"
+        for text in ("", "X\n", "--\n", "R 0\n%s--\n" % row, "R 0\n%sR 2\n%s--\n" % (row, row), "R 1\n%sR 0\n%s--\n" % (row, row),
+                     "R 0\n%sR 1\nA 0 0 1 0 0\n--\n" % row, "R 0\n%sR 1\n--\n" % row, "R 0\n%sR 1\n%s--\n--\n" % (row, row)):
+            with self.assertRaises(asking.NotToBeHad, msg=repr(text)) as trouble:
+                self.rows(text)
+            self.assertIn("what the program `evening_verdict` printed cannot be read", str(trouble.exception))
+
     def test_a_sheet_that_is_too_long_for_it(self):
         output = asking.output
         try:
@@ -804,20 +827,57 @@ class Refusals(unittest.TestCase):
             self.assertEqual(refusals.explain(sheet, 1, place).why, words)
 
     def test_a_pd_outside_its_bounds(self):
-        finite = "but must be a finite number of at most 2^40 in magnitude"
+        finite = "but must be a finite number of at most 2^40 ft in magnitude"
         for pair, fields, words in (
-                ((30.0, 20.0), ["required"], "required pressure (20.0 ft) is below minimum pressure (30.0 ft)"),
+                ((30.0, 20.0), ["required"],
+                 "required pressure, 8.67 psi (20.00 ft), is below minimum pressure, 13.00 psi (30.00 ft)"),
                 ((float("nan"), 20.0), ["minimum", "required"], "minimum is nan " + finite),
                 ((0.0, float("nan")), ["required"], "required is nan " + finite),
                 ((0.0, float("inf")), ["required"], "required is inf " + finite),
                 ((0.0, float("-inf")), ["required"], "required is -inf " + finite),
-                ((0.0, 2.0 ** 41), ["required"], "required is 2199023255552.0 " + finite)):
+                ((0.0, 2.0 ** 41), ["required"], "required is 9.52837e+11 psi (2199023255552.0 ft) " + finite)):
             s = Sheet(pressures=pair)
             s.reservoir()
             found = refusals.explain(s.encode(), 3, 29)
             self.assertEqual([name for name, _, _ in found.fields], fields)
             self.assertTrue(found.why.startswith("the pressures record (PD): " + words), found.why)
             self.assertEqual((found.record, found.offset), ("the pressures record (PD)", 29))
+
+    def test_a_field_outside_its_bounds_in_the_sheets_own_units(self):
+        great, finite = 2.0 ** 41, " but must be a finite number of at most 2^40 %s in magnitude"
+        op, pd, node, link = "op", "pd", "nodes", "links"
+        for unit, where, field, value, words in (
+                ("LPS", node, "demand", great, "demand is 6.22697e+13 LPS (2199023255552.0 cfs)" + finite % "cfs"),
+                ("CFS", node, "demand", great, "demand is 2199023255552.0 cfs" + finite % "cfs"),
+                ("GPM", link, "flow", -great, "flow is -9.8699e+14 GPM (-2199023255552.0 cfs)" + finite % "cfs"),
+                ("CMH", node, "elevation", great, "elevation is 6.70262e+11 m (2199023255552.0 ft)" + finite % "ft"),
+                ("MGD", node, "head", great, "head is 2199023255552.0 ft" + finite % "ft"),
+                ("LPS", node, "head", float("nan"), "head is nan" + finite % "ft"),
+                ("LPS", link, "diameter", 0.0005, "diameter is 0.1524 mm (0.0005 ft) but must be at least 2^-10 ft for a valve"),
+                ("GPM", link, "diameter", 0.0005, "diameter is 0.0005 ft but must be at least 2^-10 ft for a valve"),
+                ("LPS", link, "setting", great, "setting is 6.70262e+11 m (2199023255552.0 ft)" + finite % "ft"),
+                ("GPM", link, "setting", great, "setting is 9.52837e+11 psi (2199023255552.0 ft)" + finite % "ft"),
+                ("LPS", link, "resistance", -1.0, "resistance is -1.0 but must be 0 or more"),
+                ("LPS", op, "max_flow_change", -1.0, "max flow change is -1.0 LPS but must be 0 or more"),
+                (11, op, "max_flow_change", -1.0, "max flow change is -1.0 but must be 0 or more"),
+                ("LPS", pd, "required", 20.0, "required pressure, 6.10 m, is below minimum pressure, 9.14 m")):
+            s = Sheet(unit=unit, pressures=(30.0, 40.0))
+            s.reservoir()
+            s.junction()
+            s.valve("PRV", 0, 1)
+            found = getattr(s, where)
+            (found[0] if isinstance(found, list) else found)[field] = value
+            place = {op: 0, pd: 29, node: s.at_node(0), link: s.at_link(0)}[where]
+            with self.subTest(words):
+                self.assertEqual(sheet_bounds.reading(s.encode()), ("R", 3, place))
+                self.assertIn(": " + words, refusals.explain(s.encode(), 3, place).why)
+
+    def test_an_fcvs_setting_is_a_flow(self):
+        s = Sheet(unit="LPS")
+        s.reservoir()
+        s.junction()
+        s.valve("FCV", 0, 1, setting=2.0 ** 41)
+        self.assertIn("setting is 6.22697e+13 LPS (2199023255552.0 cfs)", refusals.explain(s.encode(), 3, s.at_link(0)).why)
 
     def test_places_behind_a_pd(self):
         s = Sheet(pressures=(0.0, 30.0))
@@ -1019,9 +1079,9 @@ class TextForm(unittest.TestCase):
                 ("minimum 3 m required nan m", "nan is no number, but the figure of required is expected"),
                 ("minimum 3 m minimum 3 m", "minimum is given twice"),
                 ("least 3 m", "pressures has no least; it may have minimum, required"),
-                ("minimum 3 ft required 2 ft", "required is 2.0 but must be the minimum pressure or more"),
+                ("minimum 3 ft required 2 ft", "required is 0.8666 psi but must be the minimum pressure or more"),
                 ("minimum 0 ft required 2e12 ft",
-                 "required is 2000000000000.0 but must be a finite number of at most 2^40 in magnitude")):
+                 "required is 8.666e+11 psi (2000000000000.0 ft) but must be a finite number of at most 2^40 ft in magnitude")):
             self.assertEqual(self.mistakes("reservoir a head 9 ft\npressures " + line), [(2, words)])
         once = "pressures minimum 0 ft required 9 ft\n"
         self.assertEqual(self.mistakes(once + "reservoir a head 9 ft\n" + once),
@@ -1093,7 +1153,8 @@ class Command(unittest.TestCase):
                      ("--sheet", empty, "-o", picture), ("--explain", "--json", example("june")),
                      ("--sheet", example("june"), "-o", picture)):
             status, out, err = desk(*args)
-            self.assertEqual((status, out), (2, ""), args)
+            self.assertEqual(status, 2, args)
+            self.assertTrue(out.startswith("[\n") if "--json" in args else out == "", args)
             self.assertTrue(err, args)
             self.assertEqual(os.listdir(self.folder.name), before, args)
 

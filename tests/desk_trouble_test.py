@@ -156,6 +156,16 @@ class Outputs(Folder):
             self.assertEqual(self.bytes_of("a.txt"), TEXT, out)
         self.assertIn("link would be written over, and it is an input", desk("--sheet", text, "-o", self.path("link"))[2])
 
+    def test_nor_where_it_comes_by_standard_input(self):
+        text = self.path("a.txt", data=TEXT)
+        for line in ("$DESK --sheet - -o %s <%s" % (text, text), "$DESK --text - -o %s <%s" % (text, text)):
+            status, err = shell(line)
+            self.assertEqual((status, self.bytes_of("a.txt")), (2, TEXT), err)
+            self.assertIn("a.txt would be written over, and it is an input", err)
+        # what is no file may be both
+        self.assertEqual(shell("$DESK --sheet - -o /dev/null <%s" % text)[0], 0)
+        self.assertEqual(shell("cat %s | $DESK --sheet - -o %s" % (text, self.path("b.sheet")))[0], 0)
+
     def test_nor_by_a_picture(self):
         data = read("examples/june.sheet")
         sheet = self.path("a.svg", data=data)

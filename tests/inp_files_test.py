@@ -15,9 +15,11 @@ sys.path[:0] = [TOP, os.path.join(TOP, "tools")]
 import inp_damage
 import inp_files
 import inp_reader
+import inp_stored
 from coordinator import sheet_bounds
 from coordinator.sheet_format import LINK_KINDS, NODE_KINDS, PER_CFS, STATUSES, UNITS, decode
 from rounded import add, div, mul
+from stored import read
 
 SEED, COUNT = 1, 2000
 
@@ -190,6 +192,12 @@ class Generated(unittest.TestCase):
             done = subprocess.run([sys.executable, "-c", code], env=dict(os.environ, PYTHONHASHSEED=hashes),
                                   cwd=os.path.join(TOP, "tools"), stdout=subprocess.PIPE, check=True)
             self.assertEqual(done.stdout.decode().strip(), digest)
+
+
+class Stored(unittest.TestCase):
+    def test_the_list_is_what_the_tool_makes(self):
+        for name, data in inp_stored.files().items():
+            self.assertTrue(read(name) == data, name)
 
 
 if __name__ == "__main__":

@@ -378,7 +378,7 @@ class Lines(unittest.TestCase):
         (op,) = records(text_of(GOOD + ["UNITS CMD"]), b"OP")
         self.assertEqual(UNITS[op["unit"]], "CMD")
         for first, second, status, setting in (("CLOSED", "OPEN", "FixedOpen", 30), ("OPEN", "40", "Active", 40),
-                                               ("40", "CLOSED", "FixedClosed", 40), ("40", "50", "Active", 50)):
+                                               ("40", "CLOSED", "FixedClosed", 30), ("40", "50", "Active", 50)):
             lines = GOOD[:15] + ["V1 " + first, "V1 " + second] + GOOD[15:]
             valve = records(text_of(lines), b"LK")[3]
             self.assertEqual((STATUSES[valve["status"]], valve["setting"]), (status, div(setting, 0.4333)))
@@ -393,13 +393,16 @@ class Lines(unittest.TestCase):
                    (10, "B " + zeros + "x"), (10, "B ." + zeros + "x"), (10, "B 1e" + zeros + "x"))
         self.assertEqual(said(b"\n" * 100000 + b"x"), (10, 100001))
 
-    def test_so_many_nodes_have_numbers(self):
-        lines = ["[JUNCTIONS]"] + ["%x 0" % k for k in range(65536)]
-        end = ["[PIPES]", "P 0 ffff 1 1 1"]
-        (pipe,) = records(text_of(lines + end), b"LK")
-        self.assertEqual((pipe["start"], pipe["end"]), (0, 65535))
-        self.assertEqual(said(text_of(lines + ["x 0"] + end)), (10, 65538))
-        self.assertEqual(said(text_of(lines + ["[TANKS]", "x 0 0 0 0 0 0 C"])), (10, 65539))
+    def test_so_many_names_are_kept(self):
+        nodes = ["[JUNCTIONS]"] + ["%d 0" % k for k in range(512)]
+        pipes = ["[PIPES]"] + ["P%d 0 511 1 1 1" % k for k in range(1024)]
+        found = records(text_of(nodes + pipes), b"LK")
+        self.assertEqual((len(found), found[-1]["start"], found[-1]["end"]), (1024, 0, 511))
+        self.assertEqual(said(text_of(nodes + ["x 0"] + pipes)), (10, 514))
+        self.assertEqual(said(text_of(nodes + ["[TANKS]", "x 0 0 0 0 0 0 C"])), (10, 515))
+        self.assertEqual(said(text_of(nodes + pipes + ["x 0 511 1 1 1"])), (10, 1539))
+        self.assertEqual(said(text_of(nodes + pipes + ["[VALVES]", "x 0 no 6 GPV C 0"])), (10, 1540))
+        self.assertIn("| more than 512 nodes or 1,024 links |", read("docs/INP.md").decode())
 
 
 class Numbers(unittest.TestCase):

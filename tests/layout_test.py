@@ -1,5 +1,5 @@
 """Which crates know where a field stands: records by offset, nodes and links by (sheet, layout, index), row_sheet, which
-writes demands, and those that do the reading itself. No other crate's code or definition names an offset or adds a number to one, but the
+writes demands, sheet_bytes, which writes records, and those that do the reading itself. No other crate's code or definition names an offset or adds a number to one, but the
 definition of what stands at the place that a refusal names."""
 import glob
 import os
@@ -9,7 +9,7 @@ import unittest
 ROOT = os.path.dirname(os.path.dirname(os.path.abspath(__file__)))
 
 # patterns knows no sheet: it makes numbers of bytes, also for the programs that replay vectors
-KNOW = {"patterns", "layout", "records", "nodes", "links", "row_sheet"}
+KNOW = {"patterns", "layout", "records", "nodes", "links", "row_sheet", "sheet_bytes"}
 READ = {"fields", "ends", "sheet", "accepted", "stream", "long_sheets"}
 TELL = {os.path.join("crates", "promises", "specs", "Places.antt")}
 

@@ -66,7 +66,9 @@ class Rows(unittest.TestCase):
 
     def test_every_library_but_the_bare_has_edits(self):
         bare = {"constants", "nearest"}  # definitions and one theorem each, with one edit
-        for crate in libraries():
+        # definitions and no function, or a write: no program can be wrong that a contract speaks of
+        none = {"known", "text_out", "rows_out"}
+        for crate in set(libraries()) - none:
             edits = glob.glob(os.path.join(ROOT, "crates", crate, "must-fail", "*.edit"))
             self.assertGreaterEqual(len(edits), 1 if crate in bare else 2, crate)
 

@@ -192,7 +192,8 @@ class Maker:
         kind = dice.choice(kinds)
         diameter, setting, minor_loss = self.diameter(), figure(dice, 0, 90), figure(dice, 0, 9)
         self.link("VALVES", start, end, [diameter, cased(dice, kind), setting, minor_loss], kind=kind,
-                  diameter=diameter, setting=setting, minor_loss=minor_loss, status="Active", check_valve=0)
+                  diameter=diameter, setting=setting, own=setting, minor_loss=minor_loss, status="Active",
+                  check_valve=0)
 
     def status(self, about):
         dice = self.dice
@@ -205,6 +206,8 @@ class Maker:
             word = dice.choice(("Open", "Closed"))
             self.put("STATUS", [about["name"], cased(dice, word)], valve=valve)
             about["status"] = "Fixed" + word if valve else word
+            # the last line counts alone: a valve has the setting of its own line again
+            about.update({"setting": about["own"]} if valve else {})
 
     def option(self, key, *values):
         """An option that takes one value, or one of the passed ones."""

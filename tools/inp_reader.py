@@ -20,8 +20,10 @@ from coordinator.words import METRES_PER_FOOT, PSI_PER_FOOT
 
 NOT_READ, UNKNOWN_NAME, NOT_CARRIED = 10, 11, 12
 LONGEST_NAME, MOST_DIGITS, MOST_EXPONENT = 31, 17, 20
-# a sheet counts trials, and numbers nodes, in two bytes
-MOST_TRIALS, MOST_NODES = 65535, 65536
+# a sheet counts trials in two bytes
+MOST_TRIALS = 65535
+# a reader without a heap keeps so many names
+MOST_NODES, MOST_LINKS = 512, 1024
 
 # the Rust's constants.rs
 Q_ZERO, SMALL_VALUE = 1e-6, 1e-6
@@ -150,7 +152,7 @@ class Network:
         return word
 
     def new_link(self, word):
-        expect(name(word) not in self.links)
+        expect(name(word) not in self.links and len(self.links) < MOST_LINKS)
         return word
 
     def add_node(self, called, **fields):
@@ -209,8 +211,8 @@ class Network:
         if kind == "GPV":
             no_pattern([words[5]])
         setting = number(words[5])
-        self.add_link(called, start, end, kind=kind, diameter=diameter, setting=setting, minor_loss=minor_loss,
-                      status="Active", check_valve=0)
+        self.add_link(called, start, end, kind=kind, diameter=diameter, setting=setting, own_setting=setting,
+                      minor_loss=minor_loss, status="Active", check_valve=0)
 
     def status(self, words):
         """Link ID, then OPEN, CLOSED or the setting of a valve."""
@@ -222,7 +224,8 @@ class Network:
             expect(fixed and not link["check_valve"])
             link["status"] = value
         elif fixed:
-            link["status"] = "Fixed" + value
+            # the last line counts alone: a number before it is forgotten
+            link.update(setting=link["own_setting"], status="Fixed" + value)
         else:
             link.update(setting=value, status="Active")
 

@@ -12,11 +12,11 @@ import sys
 
 import library
 import product  # noqa: F401
-from coordinator import asking, building, files, programs
+from coordinator import asking, building, epanet, files, programs
 
-PROGRAMS = (asking.NAME, asking.ANY_LENGTH)
-PAPERS = ("README.md", "CHANGELOG.md", "NOTICE", "docs/DESK.md", "docs/SHEETS.md", "docs/BOOKINGS.md", "docs/RULES.md",
-          "docs/desk.schema.json", "docs/bookings.schema.json", "docs/june.svg")
+PROGRAMS = (asking.NAME, asking.ANY_LENGTH, asking.ROWS, epanet.NAME)
+PAPERS = ("README.md", "CHANGELOG.md", "NOTICE", "docs/DESK.md", "docs/SHEETS.md", "docs/INP.md", "docs/BOOKINGS.md",
+          "docs/RULES.md", "docs/desk.schema.json", "docs/bookings.schema.json", "docs/june.svg")
 
 
 def top(*names):

@@ -18,7 +18,8 @@ from coordinator import crates, programs
 
 PARTS = ("src", "specs", "proofs")
 LEAST = 2
-EXCEPT = {("sheet", "read"), ("standard", "put")}  # read_within under base_bounds; a write
+# read_within under base_bounds; writes
+EXCEPT = {("sheet", "read"), ("standard", "put"), ("text_out", "show"), ("rows_out", "show_rows")}
 
 
 def edits_of(root, crate):

@@ -12,11 +12,14 @@ ROOT = os.path.dirname(os.path.dirname(os.path.dirname(os.path.abspath(__file__)
 sys.path[:0] = [ROOT, os.path.join(ROOT, "tools")]
 
 import evenings  # noqa: E402
+import inp_files  # noqa: E402
+import inp_reader  # noqa: E402
 import library as archive  # noqa: E402
 from coordinator import listings  # noqa: E402
 from coordinator import programs  # noqa: E402
 from coordinator.network import JUNCTION  # noqa: E402
 from coordinator.sheet_format import decode  # noqa: E402
+from stored import read  # noqa: E402
 
 SOURCES = os.path.join(ROOT, "examples", "c")
 SOURCE = os.path.join(SOURCES, "solve.c")
@@ -165,6 +168,53 @@ class EveningFromC(unittest.TestCase):
 
     def test_a_refused_sheet(self):
         self.assertEqual(said(*self.evening, sheet("refused")), "refused: number 3, place 168")
+
+
+
+TERRACES = read("examples/terraces.inp")
+
+
+class TextFromC(unittest.TestCase):
+    """EPANET texts, against tools/inp_reader.py and the listing of the sheet that it makes."""
+
+    @classmethod
+    def setUpClass(cls):
+        archive.have()
+        cls.folder = tempfile.TemporaryDirectory()
+        cls.addClassCleanup(cls.folder.cleanup)
+        cls.text = build_for_here()(os.path.join(cls.folder.name, "text"), source=os.path.join(SOURCES, "text.c"))
+
+    def said_of(self, text):
+        path = os.path.join(self.folder.name, "given.inp")
+        with open(path, "wb") as file:
+            file.write(text)
+        # names are bytes of any kind
+        return subprocess.run([*self.text, path], stdout=subprocess.PIPE, check=True).stdout.split(b"\n")[:-1]
+
+    def expected(self, text):
+        made = inp_reader.read(text)
+        if isinstance(made, inp_reader.Refused):
+            return [b"refused: number %d, line %d" % made]
+        listing = listings.Listing(programs.run("listing", made.sheet).decode("ascii"))
+        lines = [b"%d nodes, %d links, a sheet of %d bytes, names of %d" % (
+            len(made.nodes), len(made.links), len(made.sheet), len(inp_reader.name_list(made))),
+            b"solved: number %d, place %d, %d trials" % (listing.number, listing.place, listing.trials)]
+        if listing.number == 0:
+            lines += [name + b": head %.4f ft" % head for name, head in zip(made.nodes, listing.heads)]
+        return lines + [b"each buffer one byte short: refused with 5 at 6, nothing changed"]
+
+    def test_the_example_and_texts_by_seed(self):
+        for text in [TERRACES, *(case.text for case in inp_files.cases(3, 20))]:
+            self.assertEqual(self.said_of(text), self.expected(text), text)
+
+    def test_refusals_by_number(self):
+        for text, told in ((b"[PIPES\n\n x", b"number 12, line 3"), (b"[JUNCTIONS]\na 1 2 p", b"number 11, line 2"),
+                           (b"a", b"number 10, line 1")):
+            self.assertEqual(self.said_of(text), [b"refused: " + told])
+
+    def test_the_page_shows_it(self):
+        with open(os.path.join(SOURCES, "README.md"), "rb") as file:
+            self.assertIn(b"```\n%s\n```" % b"\n".join(self.said_of(TERRACES)), file.read())
 
 
 if __name__ == "__main__":

@@ -1,5 +1,6 @@
 """The proved program `evening` on the evenings that its crate keeps, and on evenings made by seed against single solves:
-each row is what `replay` prints for the sheet with the row's demands, byte for byte. And the call that C makes, by
+each row is what `replay` prints for the sheet with the row's demands, byte for byte. The program `evening_verdict` likewise,
+with each row's verdict by the second computation (tools/verdicts.py). And the call that C makes, by
 evening.c: every byte lent, refusals with their places, short buffers. `./test` runs this once all is proved, since it needs
 the programs and the library."""
 import os
@@ -17,13 +18,14 @@ sys.path[:0] = [ROOT, os.path.join(ROOT, "tools")]
 import c_test  # noqa: E402
 import evenings  # noqa: E402
 import library  # noqa: E402
+import verdict_stored  # noqa: E402
 from coordinator import listings, programs  # noqa: E402
 from coordinator.sheet_format import Dice, pack_many  # noqa: E402
 from sheet_refusals import changed, full, pair  # noqa: E402
 from stored import read  # noqa: E402
 
 # another seed than the kept ones'
-SEED, COUNT = 2301, 400
+SEED, COUNT, JUDGED = 2301, 400, 120
 LONGEST, MOST_ENTRIES = 65536, 4096
 
 
@@ -101,6 +103,37 @@ class Evening(unittest.TestCase):
         self.assertTrue(texts[0].startswith("R 0\nA 0 "))
         self.assertEqual(texts[1:], ["A 1 0 0 0 0\n"] * 2)
         self.compare([many, long, none])
+
+
+class Judged(unittest.TestCase):
+    """The program `evening_verdict`: the listings of single solves, with the verdicts of the second computation."""
+
+    @staticmethod
+    def run_on(pairs):
+        return programs.run("evening_verdict", verdict_stored.evenings_asked(pairs)).decode("ascii")
+
+    def test_the_kept_ones(self):
+        self.assertEqual(programs.run("evening_verdict", read("crates/evening_verdict/stdin")), read("crates/evening_verdict/stdout"))
+
+    def test_by_seed(self):
+        asked = [evenings.seeded(SEED + 3, i) for i in range(JUDGED)] + [longest(32)]
+        pairs = [(verdict_stored.LIMITS[i % len(verdict_stored.LIMITS)], one) for i, one in enumerate(asked)]
+        ours, met = listings.split(self.run_on(pairs)), Counter()
+        self.assertEqual(len(ours), len(asked))
+        for (limits, one), text, told in zip(pairs, ours, evenings.told(asked, single)):
+            self.assertEqual(text, verdict_stored.evening_judged(one, told, limits), (one.name, limits))
+            met.update(line.split(" ")[1] for line in text.splitlines() if line.startswith("V "))
+        self.assertTrue(set(met) >= set("01234568"), met)
+
+    def test_cut_or_too_long(self):
+        one = evenings.of_rows("two", "", pair(), [[0.0, 0.5], [0.0, 0.25]])
+        whole = verdict_stored.evenings_asked([(verdict_stored.LIMITS[0], one)])
+        answer = programs.run("evening_verdict", whole)
+        self.assertTrue(answer.startswith(b"R 0\nV 0 0\nA 0 ") and answer.endswith(b"\n--\n"))
+        table = len(whole) - len(one.table)
+        for cut in (1, 23, 24, 27, 28, 31, 32, 33, table - 5, table - 4, table - 1, table, len(whole) - 8, len(whole) - 1):
+            self.assertEqual(programs.run("evening_verdict", whole[:cut]), b"X\n", cut)
+            self.assertEqual(programs.run("evening_verdict", whole + whole[:cut]), answer + b"X\n", cut)
 
 
 class Lent(unittest.TestCase):

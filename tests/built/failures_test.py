@@ -34,6 +34,7 @@ LIMITS = struct.pack("<ddd", *USUAL)
 # what each program takes for one sheet
 TAKES = {"listing": SHEET, "replay": item(SHEET), "steps": item(SHEET), "verdict": LIMITS + item(SHEET),
          "evening": struct.pack("<I", 1) + item(SHEET) + struct.pack("<I2d", 2, 0.0, 0.0)}
+TAKES["evening_verdict"] = LIMITS + TAKES["evening"]
 
 
 def ended(name, **streams):
@@ -97,8 +98,8 @@ class Programs(unittest.TestCase):
         for name, data in TAKES.items():
             with self.subTest(name), open("/dev/full", "wb") as full:
                 for (status, said), _ in (ended(name, input=data, stdout=full), by_shell(name, ">&-", data)):
-                    # evening says it for each line that it cannot write
-                    times = said.count(b"\n") if name == "evening" else 1
+                    # those of evenings say it for each part that they cannot write
+                    times = said.count(b"\n") if name.startswith("evening") else 1
                     self.assertEqual((status, said), (NO_OUTPUT[0], times * NO_OUTPUT[1]))
 
     def test_many_sheets_for_an_output_that_is_full(self):

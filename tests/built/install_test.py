@@ -39,6 +39,7 @@ class Installed(unittest.TestCase):
         os.mkdir(cls.elsewhere)
         for name in ("june", "looped"):
             shutil.copy(os.path.join(TOP, "examples", name + ".sheet"), cls.elsewhere)
+        shutil.copy(os.path.join(TOP, "examples", "terraces.inp"), cls.elsewhere)
         with open(os.path.join(cls.elsewhere, "field.txt"), "wb") as file:
             file.write(TEXT)
 
@@ -72,6 +73,17 @@ class Installed(unittest.TestCase):
         self.assertEqual(sorted(name for name in os.listdir(self.elsewhere) if name.endswith(".svg")),
                          ["out-1-june.svg", "out-2-looped.svg"])
 
+    def test_an_epanet_text(self):
+        status, out = self.desk("terraces.inp")
+        self.assertEqual((status, out.splitlines()[0]), (0, "solved in 6 trials; these pressures may be sold"))
+
+    def test_bookings(self):
+        with open(os.path.join(self.elsewhere, "week.csv"), "w", encoding="ascii") as file:
+            file.write("18:00,vines,6 L/s\n")
+        status, out = self.desk("--bookings", "week.csv", "terraces.inp")
+        self.assertEqual(status, 0, out)
+        self.assertTrue(out.startswith("18:00  yes  1 hydrant with 6.00 LPS; "), out)
+
     def test_a_long_file_asks_the_other_program(self):
         with open(os.path.join(self.elsewhere, "long.sheet"), "wb") as file:
             file.write(bytes(70000))
@@ -87,7 +99,7 @@ class Installed(unittest.TestCase):
 
     def test_papers_and_modes(self):
         for name, mode in (("bin/desk", 0o755), ("lib/ndurabeew/programs/listing", 0o755), ("include/desk.h", 0o644),
-                           ("share/doc/ndurabeew/DESK.md", 0o644), ("share/doc/ndurabeew/desk.schema.json", 0o644)):
+                           ("share/doc/ndurabeew/DESK.md", 0o644), ("share/doc/ndurabeew/INP.md", 0o644), ("share/doc/ndurabeew/desk.schema.json", 0o644)):
             self.assertEqual(os.stat(os.path.join(self.prefix, name)).st_mode & 0o777, mode, name)
 
 

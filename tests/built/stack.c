@@ -1,8 +1,9 @@
-/* How much stack a call needs, and calls from several threads at once: stack SHEET...
+/* How much stack a call needs, and calls from several threads at once: stack SHEET... TEXT...
 
    Each call runs in a thread whose stack is painted before; what is below the caller's frame and no longer painted was
-   used. Prints `SHEET FUNCTION BYTES` for each sheet and function, the evenings with two rows, then `threads same` if eight
-   threads that call one at the same time, some dozen times each, all get the answers that one gets alone. */
+   used. Prints `FILE FUNCTION BYTES` for each file and function (all take any bytes), the evenings with two rows, then
+   `threads same` if eight threads that call one at the same time, some dozen times each, all get the answers that one gets
+   alone: the first file is solved, and the last one is read as a text. */
 #include <pthread.h>
 #include <stdio.h>
 #include <stdlib.h>
@@ -16,17 +17,18 @@
 #define ROUNDS 40
 #define ROWS 2
 
-enum { SOLVE, VERDICT, EVENING, EVENING_VERDICT, CALLS };
-static const char *const names[CALLS] = {"desk_solve", "desk_verdict", "desk_evening", "desk_evening_verdict"};
+enum { SOLVE, VERDICT, EVENING, EVENING_VERDICT, TEXT, CALLS };
+static const char *const names[CALLS] = {"desk_solve", "desk_verdict", "desk_evening", "desk_evening_verdict", "desk_text"};
 
 struct room {
     double table[ROWS * 64], heads[ROWS * 64], demands[ROWS * 64], flows[ROWS * 128], scratch[4096], totals[ROWS * 3];
     uint8_t statuses[ROWS * 128], record[ROWS * 800];
     uint64_t counts[ROWS * 7], told[2];
+    uint8_t sheet[73263], names[49152];
 };
 
 struct job {
-    uint8_t sheet[9199];
+    uint8_t given[1 << 18];
     size_t length;
     int what, times;
     /* where the caller's frame is, as a number */
@@ -38,18 +40,20 @@ static void call(struct job *job)
 {
     struct room *r = &job->room;
     if (job->what == VERDICT)
-        desk_verdict(job->sheet, job->length, 0.0, 0.1, 0.001, r->heads, 64, r->demands, 64, r->flows, 128, r->statuses, 128,
+        desk_verdict(job->given, job->length, 0.0, 0.1, 0.001, r->heads, 64, r->demands, 64, r->flows, 128, r->statuses, 128,
                      r->record, 800, r->scratch, 4096, r->counts, r->totals, r->told);
     else if (job->what == EVENING)
-        desk_evening(job->sheet, job->length, ROWS, r->table, ROWS * 64, r->heads, ROWS * 64, r->demands, ROWS * 64, r->flows,
+        desk_evening(job->given, job->length, ROWS, r->table, ROWS * 64, r->heads, ROWS * 64, r->demands, ROWS * 64, r->flows,
                      ROWS * 128, r->statuses, ROWS * 128, r->record, ROWS * 800, r->scratch, 4096, r->counts, ROWS * 5, r->totals,
                      ROWS * 3, r->told);
     else if (job->what == EVENING_VERDICT)
-        desk_evening_verdict(job->sheet, job->length, 0.0, 0.1, 0.001, ROWS, r->table, ROWS * 64, r->heads, ROWS * 64, r->demands,
+        desk_evening_verdict(job->given, job->length, 0.0, 0.1, 0.001, ROWS, r->table, ROWS * 64, r->heads, ROWS * 64, r->demands,
                              ROWS * 64, r->flows, ROWS * 128, r->statuses, ROWS * 128, r->record, ROWS * 800, r->scratch, 4096,
                              r->counts, ROWS * 7, r->totals, ROWS * 3, r->told);
+    else if (job->what == TEXT)
+        desk_text(job->given, job->length, r->sheet, sizeof r->sheet, r->names, sizeof r->names, r->counts);
     else
-        desk_solve(job->sheet, job->length, r->heads, 64, r->demands, 64, r->flows, 128, r->statuses, 128,
+        desk_solve(job->given, job->length, r->heads, 64, r->demands, 64, r->flows, 128, r->statuses, 128,
                    r->record, 800, r->scratch, 4096, r->counts, r->totals);
 }
 
@@ -69,12 +73,12 @@ static void fail(const char *what)
     exit(2);
 }
 
-static void read_sheet(const char *path, struct job *job)
+static void read_file(const char *path, struct job *job)
 {
     FILE *file = fopen(path, "rb");
     if (!file)
-        fail("a sheet cannot be read");
-    job->length = fread(job->sheet, 1, sizeof job->sheet, file);
+        fail("a file cannot be read");
+    job->length = fread(job->given, 1, sizeof job->given, file);
     fclose(file);
 }
 
@@ -101,7 +105,7 @@ static int same_in_threads(const char *path, int what)
     static struct job alone, jobs[THREADS];
     pthread_t threads[THREADS];
     memset(&alone, 0, sizeof alone);
-    read_sheet(path, &alone);
+    read_file(path, &alone);
     alone.what = what;
     alone.times = 1;
     for (int i = 0; i < THREADS; i++) {
@@ -127,13 +131,13 @@ int main(int count, char **paths)
     for (int i = 1; i < count; i++)
         for (int what = 0; what < CALLS; what++) {
             memset(&job, 0, sizeof job);
-            read_sheet(paths[i], &job);
+            read_file(paths[i], &job);
             job.times = 1;
             job.what = what;
             printf("%s %s %zu\n", paths[i], names[what], used(&job));
         }
     for (int what = VERDICT; what < CALLS; what++)
-        same = same && same_in_threads(paths[1], what);
+        same = same && same_in_threads(paths[what == TEXT ? count - 1 : 1], what);
     printf("threads %s\n", same ? "same" : "differ");
     return 0;
 }

@@ -6,3 +6,4 @@ pub use steps::Damping;
 pub use steps::converged;
 pub use steps::damped;
 pub use steps::relative_change;
+pub use units::factor;

@@ -3,8 +3,9 @@ ghost use mathlib.Core.Path.{_≡_};
 ghost use Prim.Native.Nat.{_<_};
 ghost use Rattle.line_words.specs.Words.{wordsOf};
 ghost use Rattle.word_places.specs.Places.{Words};
-ghost use Rattle.line_fields.specs.Fields.{nameAt, numberAt, numberOrNone, keywordAt, faultOf};
+ghost use Rattle.line_fields.specs.Fields.{nameAt, numberAt, numberOrNone, valueAt, valueOrZero, keywordAt, faultOf};
 use decimal_words::spelled_number;
+use decimal_words::worth;
 use spelled::spells;
 use word_places::has_word;
 use word_places::word;
@@ -32,6 +33,25 @@ pub fn is_number_or_none(line: &[u8], places: &[usize; 20], k: usize) -> bool
     ensures { λ r. ⌜ r ≡ numberOrNone (wordsOf (now (line .entry))) k ⌝ }
 {
     !has_word(line, places, k) | is_number(line, places, k)
+}
+
+// The f64 that word k spells; 0.0 where it spells none.
+pub fn number_at(line: &[u8], places: &[usize; 20], k: usize) -> f64
+    requires { ⌜ Words (now line) (now places) × (k < 10) ⌝ }
+    ensures { λ r. ⌜ r ≡ valueAt (wordsOf (now (line .entry))) k ⌝ }
+{
+    worth(spelled_number(word(line, places, k)))
+}
+
+// The f64 that word k spells, or 0.0 where it is not there.
+pub fn number_or_zero(line: &[u8], places: &[usize; 20], k: usize) -> f64
+    requires { ⌜ Words (now line) (now places) × (k < 10) ⌝ }
+    ensures { λ r. ⌜ r ≡ valueOrZero (wordsOf (now (line .entry))) k ⌝ }
+{
+    if has_word(line, places, k) {
+        return number_at(line, places, k);
+    }
+    0.0
 }
 
 // Whether word k is the keyword, which is given in capitals.

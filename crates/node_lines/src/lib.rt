@@ -19,7 +19,8 @@ pub fn junction_fault(line: &[u8], places: &[usize; 20]) -> u64
     let good = count
         & is_name(line, places, 0)
         & is_number(line, places, 1)
-        & is_number_or_none(line, places, 2);
+        & is_number_or_none(line, places, 2)
+        & is_name(line, places, 3);
     fault(good, has_word(line, places, 3))
 }
 
@@ -29,7 +30,10 @@ pub fn reservoir_fault(line: &[u8], places: &[usize; 20]) -> u64
     ensures { λ r. ⌜ r ≡ reservoirFault (wordsOf (now (line .entry))) ⌝ }
 {
     let count = has_word(line, places, 1) & !has_word(line, places, 3);
-    let good = count & is_name(line, places, 0) & is_number(line, places, 1);
+    let good = count
+        & is_name(line, places, 0)
+        & is_number(line, places, 1)
+        & is_name(line, places, 2);
     fault(good, has_word(line, places, 2))
 }
 
@@ -64,6 +68,7 @@ pub fn tank_fault(line: &[u8], places: &[usize; 20]) -> u64
     let good = count
         & is_name(line, places, 0)
         & tank_numbers(line, places)
+        & is_name(line, places, 7)
         & overflow_good(line, places);
     let curve = has_word(line, places, 7) & !is_keyword(line, places, 7, b"*");
     fault(good, curve)

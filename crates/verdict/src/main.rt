@@ -20,12 +20,8 @@ fn limits_in(head: &[u8]) -> Limits
 
 fn tell(v: Verdict) -> bool {
     let mut out = [0u8; 64];
-    out[0] = b'V';
-    let p = words::put_number(v.number, &mut out, 1);
-    let q = words::put_number(v.place, &mut out, p);
-    out[q] = b'\n';
-    let end = q + 1;
-    standard::put(&out[..end])
+    let n = verdict_line::verdict_line(v.number, v.place, &mut out, 0);
+    standard::put(&out[..n])
 }
 
 fn judge(sheet: &[u8], limits: Limits) -> bool {

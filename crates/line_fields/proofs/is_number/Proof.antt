@@ -1,7 +1,5 @@
 -- `line_fields::is_number` meets its contract. Assumes nothing.
 use mathlib.Core.Path.{ap, _∙_}
-use mathlib.Core.List.{List}
-use Prim.Native.Nat.{ℕ}
 use borrow.Author.Needs.{needs}
 use Rattle.decimal_words.specs.declared.written.Written.{Written}
 use Rattle.decimal_words.specs.Numbers.{writtenOf}

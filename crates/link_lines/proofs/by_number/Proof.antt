@@ -7,7 +7,10 @@ use Rattle.link_lines.proofs.by_number.Tie as tie
 
 returns : tie.Need-returns
 unfolding byNumber bytesOf
-returns c = rw (c .before .before .before .before .before .before .before .before .before .is-keyword .ensures, c .before .before .before .before .before .before .before .is-keyword2 .ensures, c .before .before .before .before .before .is-keyword3 .ensures, c .before .before .before .is-keyword4 .ensures, c .before .is-keyword5 .ensures, c .is-number .ensures)
+returns c =
+    let at-is-keyword4 = c .before .before .before in
+    let at-is-keyword2 = at-is-keyword4 .before .before .before .before in
+    rw (at-is-keyword2 .before .before .is-keyword .ensures, at-is-keyword2 .is-keyword2 .ensures, at-is-keyword4 .before .before .is-keyword3 .ensures, at-is-keyword4 .is-keyword4 .ensures, c .before .is-keyword5 .ensures, c .is-number .ensures)
 
 pub by-number-spec : {M : Type 1} → statement M
 by-number-spec =

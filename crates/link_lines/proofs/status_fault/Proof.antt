@@ -7,7 +7,9 @@ use Rattle.link_lines.proofs.status_fault.Tie as tie
 
 returns : tie.Need-returns
 unfolding statusFault
-returns c = c .fault .ensures ∙ rw (c .before .before .before .before .has-word .ensures, c .before .before .before .has-word2 .ensures, c .before .before .is-name .ensures, c .before .status-good .ensures)
+returns c =
+    let at-has-word2 = c .before .before .before in
+    c .fault .ensures ∙ rw (at-has-word2 .before .has-word .ensures, at-has-word2 .has-word2 .ensures, c .before .before .is-name .ensures, c .before .status-good .ensures)
 
 pub status-fault-spec : {M : Type 1} → statement M
 status-fault-spec =

@@ -7,7 +7,11 @@ use Rattle.link_lines.proofs.valve_fault.Tie as tie
 
 returns : tie.Need-returns
 unfolding valveFault
-returns c = c .fault .ensures ∙ rw (c .before .before .before .before .before .before .before .has-word .ensures, c .before .before .before .before .before .before .has-word2 .ensures, c .before .before .before .before .before .is-number .ensures, c .before .before .before .before .is-number-or-none .ensures, c .before .before .before .by-curve .ensures, c .before .before .names-good .ensures, c .before .by-number .ensures)
+returns c =
+    let at-by-curve = c .before .before .before in
+    let at-has-word2 = at-by-curve .before .before .before in
+    c .fault .ensures
+    ∙ rw (at-has-word2 .before .has-word .ensures, at-has-word2 .has-word2 .ensures, at-by-curve .before .before .is-number .ensures, at-by-curve .before .is-number2 .ensures, at-by-curve .by-curve .ensures, c .before .before .names-good .ensures, c .before .by-number .ensures)
 
 pub valve-fault-spec : {M : Type 1} → statement M
 valve-fault-spec =

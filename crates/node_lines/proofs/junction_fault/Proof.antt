@@ -7,12 +7,17 @@ use Rattle.node_lines.proofs.junction_fault.Tie as tie
 
 returns : tie.Need-returns
 unfolding junctionFault
-returns c = c .fault .ensures ∙ rw (c .before .before .before .before .before .before .has-word .ensures, c .before .before .before .before .before .has-word2 .ensures, c .before .before .before .before .is-name .ensures, c .before .before .before .is-number .ensures, c .before .before .is-number-or-none .ensures, c .before .has-word3 .ensures)
+returns c =
+    let at-is-number = c .before .before .before .before in
+    let at-has-word2 = at-is-number .before .before in
+    c .fault .ensures
+    ∙ rw (at-has-word2 .before .has-word .ensures, at-has-word2 .has-word2 .ensures, at-is-number .before .is-name .ensures, at-is-number .is-number .ensures, c .before .before .before .is-number-or-none .ensures, c .before .before .is-name2 .ensures, c .before .has-word3 .ensures)
 
 pub junction-fault-spec : {M : Type 1} → statement M
 junction-fault-spec =
     tie.close
     (tie.spec
+    (λ c κs. search needs)
     (λ c κs. search needs)
     (λ c κs. search needs)
     (λ c κs. search needs)

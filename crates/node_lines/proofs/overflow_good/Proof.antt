@@ -7,7 +7,9 @@ use Rattle.node_lines.proofs.overflow_good.Tie as tie
 
 returns : tie.Need-returns
 unfolding overflowGood bytesOf
-returns c = rw (c .before .before .before .before .has-word .ensures, c .before .before .is-keyword .ensures, c .is-keyword2 .ensures)
+returns c =
+    let at-is-keyword = c .before .before in
+    rw (at-is-keyword .before .before .has-word .ensures, at-is-keyword .is-keyword .ensures, c .is-keyword2 .ensures)
 
 pub overflow-good-spec : {M : Type 1} → statement M
 overflow-good-spec =

@@ -7,12 +7,16 @@ use Rattle.node_lines.proofs.reservoir_fault.Tie as tie
 
 returns : tie.Need-returns
 unfolding reservoirFault
-returns c = c .fault .ensures ∙ rw (c .before .before .before .before .before .has-word .ensures, c .before .before .before .before .has-word2 .ensures, c .before .before .before .is-name .ensures, c .before .before .is-number .ensures, c .before .has-word3 .ensures)
+returns c =
+    let at-is-name = c .before .before .before .before in
+    c .fault .ensures
+    ∙ rw (at-is-name .before .before .has-word .ensures, at-is-name .before .has-word2 .ensures, at-is-name .is-name .ensures, c .before .before .before .is-number .ensures, c .before .before .is-name2 .ensures, c .before .has-word3 .ensures)
 
 pub reservoir-fault-spec : {M : Type 1} → statement M
 reservoir-fault-spec =
     tie.close
     (tie.spec
+    (λ c κs. search needs)
     (λ c κs. search needs)
     (λ c κs. search needs)
     (λ c κs. search needs)

@@ -8,12 +8,18 @@ use Rattle.node_lines.proofs.tank_fault.Tie as tie
 
 returns : tie.Need-returns
 unfolding tankFault bytesOf
-returns c = c .fault .ensures ∙ rw (c .before .before .before .before .before .before .before .before .has-word .ensures, c .before .before .before .before .before .before .before .has-word2 .ensures, c .before .before .before .before .before .before .is-name .ensures, c .before .before .before .before .before .tank-numbers .ensures, c .before .before .before .before .overflow-good .ensures, c .before .before .before .has-word3 .ensures, c .before .is-keyword .ensures)
+returns c =
+    let at-has-word3 = c .before .before .before in
+    let at-tank-numbers = at-has-word3 .before .before .before in
+    let at-has-word2 = at-tank-numbers .before .before in
+    c .fault .ensures
+    ∙ rw (at-has-word2 .before .has-word .ensures, at-has-word2 .has-word2 .ensures, at-tank-numbers .before .is-name .ensures, at-tank-numbers .tank-numbers .ensures, at-has-word3 .before .before .is-name2 .ensures, at-has-word3 .before .overflow-good .ensures, at-has-word3 .has-word3 .ensures, c .before .is-keyword .ensures)
 
 pub tank-fault-spec : {M : Type 1} → statement M
 tank-fault-spec =
     tie.close
     (tie.spec
+    (λ c κs. search needs)
     (λ c κs. search needs)
     (λ c κs. search needs)
     (λ c κs. search needs)

@@ -6,7 +6,9 @@ use Rattle.node_lines.proofs.tank_numbers.Tie as tie
 
 returns : tie.Need-returns
 unfolding tankNumbers
-returns c = rw (c .before .before .before .before .before .is-number .ensures, c .before .before .before .before .is-number2 .ensures, c .before .before .before .is-number3 .ensures, c .before .before .is-number4 .ensures, c .before .is-number5 .ensures, c .is-number6 .ensures)
+returns c =
+    let at-is-number3 = c .before .before .before in
+    rw (at-is-number3 .before .before .is-number .ensures, at-is-number3 .before .is-number2 .ensures, at-is-number3 .is-number3 .ensures, c .before .before .is-number4 .ensures, c .before .is-number5 .ensures, c .is-number6 .ensures)
 
 pub tank-numbers-spec : {M : Type 1} → statement M
 tank-numbers-spec =

@@ -1,0 +1,1 @@
+// Theorems alone: what the reading of an EPANET text may be relied on for.

@@ -1,0 +1,4 @@
+-- The specs of `text_records`.
+pub mod Figures
+pub mod Nodes
+pub mod Links

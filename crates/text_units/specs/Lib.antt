@@ -1,0 +1,2 @@
+-- The specs of `text_units`.
+pub mod Units
