@@ -1,8 +1,8 @@
 #!/usr/bin/env python3
 """The reading of EPANET texts by the proved library: bench/text.py [SECONDS]. Each text is read for so many seconds, once
 at least, and the least time counts; it is the processor's time, so that other work on the machine counts for little.
-Schemes as surveyors have them first, in columns as EPANET writes them; then the texts of 1 MiB that take longest, the last
-two half a minute or so. On Arm the library comes from the shared native_lib, as for bench/solves.py."""
+Schemes as surveyors have them first, in columns as EPANET writes them; then the texts of 1 MiB that take longest. On Arm
+the library comes from the shared native_lib, as for bench/solves.py."""
 import os
 import sys
 

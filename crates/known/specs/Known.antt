@@ -18,7 +18,7 @@ use Rattle.option_lines.specs.declared.settings.Settings.{Settings}
 use Rattle.named_lines.specs.Named.{Named, nameless, positionOf, settledBy}
 
 -- the section that the next line stands in, the options, and the lines that define nodes and links, in the order of the text;
--- kinds of nodes: 0 junction, 1 reservoir, 2 tank; of links: 0 pipe, 1 PRV, 2 PSV, 3 PBV, 4 FCV, 5 TCV
+-- kinds of nodes: 0 junction, 1 reservoir, 2 tank; of links: 0 pipe, 1 PRV, 2 PSV, 3 PBV, 4 FCV, 5 TCV, 7 pipe with a check valve
 pub record Known : Type 0 where
   pub section : Section
   pub settings : Settings
@@ -43,7 +43,7 @@ endsFault ws nodes f = cond {A = ℕ} (eqb f 0 && not (isKnown (wordIn ws 1) nod
 
 -- a pipe is opened and closed, and has no setting; one with a check valve is not set at all
 unfoldable pub settable : Named → List (List ℕ) → Bool
-settable x ws = not (eqb (x .kind) 0) || (not (eqb (pipeStatusOf (x .words)) 2) && not (eqb (saidOf ws) 2))
+settable x ws = not (eqb (x .kind) 7) && (not (eqb (x .kind) 0) || not (eqb (saidOf ws) 2))
 
 unfoldable pub settingFault : List (List ℕ) → List Named → ℕ
 settingFault ws links =
@@ -82,13 +82,16 @@ withNode x kind ws = record { section = x .section; settings = x .settings; node
 unfoldable pub withLink : Known → ℕ → List (List ℕ) → Known
 withLink x kind ws = record { section = x .section; settings = x .settings; nodes = x .nodes; links = x .links ++ (named kind ws ∷ []) }
 
+unfoldable pub pipeKindOf : List (List ℕ) → ℕ
+pipeKindOf ws = cond {A = ℕ} (eqb (pipeStatusOf ws) 2) 7 0
+
 unfoldable pub dataTaken : Section → Known → List (List ℕ) → Known
 unfolding withNode withLink
 dataTaken Before x ws = x
 dataTaken Junctions x ws = withNode x 0 ws
 dataTaken Reservoirs x ws = withNode x 1 ws
 dataTaken Tanks x ws = withNode x 2 ws
-dataTaken Pipes x ws = withLink x 0 ws
+dataTaken Pipes x ws = withLink x (pipeKindOf ws) ws
 dataTaken Valves x ws = withLink x (valveKindOf ws) ws
 dataTaken Status x ws =
     record { section = x .section; settings = x .settings; nodes = x .nodes; links = settledBy (positionOf (wordIn ws 0) (x .links)) ws (x .links) }

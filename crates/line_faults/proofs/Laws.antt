@@ -3,32 +3,17 @@ use Prim.Native.Nat.{ℕ, _+_, _*_, _≤_, _<_}
 use mathlib.Core.Path.{_≡_, sym}
 use mathlib.Core.Bool.{Bool, true, false, cond, not, _&&_, _||_}
 use mathlib.Core.List.{List}
-use native.Mathlib.Omega.{arith}
 use lib.Dec.{eqb, ltb, leb}
 use lib.ListN.{length, getD}
 use borrow.Author.Tests.{eq-eqb, ne-eqb, lt-ltb, le-ltb}
-use Rattle.lines.specs.Lines.{passage, lineAt}
-use Rattle.lines.specs.declared.Line.{Line}
-use Rattle.lines.proofs.Lines.{line-first}
-use Rattle.line_words.specs.Words.{wordsOf}
 use Rattle.line_fields.specs.Fields.{wordIn, hasWord}
 use Rattle.section_names.specs.Sections.{isHeader}
-use Rattle.link_lines.specs.Links.{pipeStatusOf, saidOf, statusFault}
-use Rattle.named_lines.specs.Named.{Named, nameless, positionOf, wordsFrom, rowOf, rowsOf}
+use Rattle.link_lines.specs.Links.{saidOf, statusFault}
+use Rattle.named_lines.specs.Named.{Named, nameless, positionOf, rowOf, rowsOf}
 use Rattle.named_lines.proofs.Laws.{rows-long, row-at}
 use Rattle.known.specs.Known.{isKnown, nameFault, endsFault, settable, settingFault, dataFault, lineFault}
 use Rattle.known.specs.Tables.{knownOf}
 use Rattle.known.specs.declared.Progress.{Progress}
-
--- ---- a line by its places
-
-module _ (t : List ℕ) (at : ℕ) (l : Line) (is : l ≡ lineAt t at) where
-  pub line-ends : at ≤ length t → (at ≤ l .end) × (l .end ≤ length t)
-  line-ends h = let f = line-first t at h in rw is (f .from, omega (arith, f .to, f .within))
-
-  pub line-words : wordsOf (passage at (l .end) t) ≡ wordsFrom t at
-  unfolding wordsFrom
-  line-words = rw is
 
 -- ---- names
 
@@ -58,13 +43,17 @@ module _ (ws : List (List ℕ)) (nodes : List Named) (f : ℕ) where
 -- ---- STATUS
 
 module _ (t rows : List ℕ) (n j : ℕ) (h : j < n) (ws : List (List ℕ)) where
-  pub valve-set : (getD rows (5 * j + 3) 0 ≡ 0 → ⊥) → true ≡ settable (getD (rowsOf t rows n) j nameless) ws
+  pub check-set : getD rows (5 * j + 3) 0 ≡ 7 → false ≡ settable (getD (rowsOf t rows n) j nameless) ws
   unfolding settable rowOf
-  valve-set d = sym (rw (row-at t rows n j h, ne-eqb (getD rows (5 * j + 3) 0) 0 d))
+  check-set z = sym (rw (row-at t rows n j h, eq-eqb (getD rows (5 * j + 3) 0) 7 z))
 
-  pub pipe-set : (a b : ℕ) → getD rows (5 * j + 3) 0 ≡ 0 → a ≡ pipeStatusOf (wordsFrom t (getD rows (5 * j) 0)) → b ≡ saidOf ws → (not (eqb a 2) && not (eqb b 2)) ≡ settable (getD (rowsOf t rows n) j nameless) ws
+  pub valve-set : (getD rows (5 * j + 3) 0 ≡ 7 → ⊥) → (getD rows (5 * j + 3) 0 ≡ 0 → ⊥) → true ≡ settable (getD (rowsOf t rows n) j nameless) ws
   unfolding settable rowOf
-  pipe-set a b z p q = sym (rw (row-at t rows n j h, eq-eqb (getD rows (5 * j + 3) 0) 0 z, ← p, ← q))
+  valve-set c d = sym (rw (row-at t rows n j h, ne-eqb (getD rows (5 * j + 3) 0) 7 c, ne-eqb (getD rows (5 * j + 3) 0) 0 d))
+
+  pub pipe-set : (b : ℕ) → (getD rows (5 * j + 3) 0 ≡ 7 → ⊥) → getD rows (5 * j + 3) 0 ≡ 0 → b ≡ saidOf ws → not (eqb b 2) ≡ settable (getD (rowsOf t rows n) j nameless) ws
+  unfolding settable rowOf
+  pipe-set b c z q = sym (rw (row-at t rows n j h, ne-eqb (getD rows (5 * j + 3) 0) 7 c, eq-eqb (getD rows (5 * j + 3) 0) 0 z, ← q))
 
 module _ (ws : List (List ℕ)) (f : ℕ) (is : f ≡ statusFault ws) where
   pub setting-passed : (links : List Named) → (f ≡ 0 → ⊥) → f ≡ settingFault ws links

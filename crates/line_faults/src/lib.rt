@@ -9,9 +9,7 @@ ghost use Rattle.named_lines.specs.Named.{Kept, nameless, rowsOf};
 ghost use Rattle.known.specs.Known.{isKnown, nameFault, endsFault, settable, settingFault, dataFault, lineFault};
 ghost use Rattle.known.specs.Tables.{knownOf, Tabled};
 use known::Progress;
-use lines::line_at;
 use link_lines::pipe_fault;
-use link_lines::pipe_status;
 use link_lines::status_fault;
 use link_lines::status_said;
 use link_lines::valve_fault;
@@ -24,7 +22,6 @@ use section_names::Section;
 use section_names::is_header;
 use word_places::has_word;
 use word_places::word;
-use word_places::word_places;
 
 // Whether word k is a name of the table.
 fn is_known(
@@ -95,16 +92,14 @@ fn may_be_set(
     requires { ⌜ Words (now line) (now places) × Kept (now text) (now links) count × (j < count) ⌝ }
     ensures { λ r. ⌜ r ≡ settable (getD (rowsOf (now (text .entry)) (now (links .entry)) count) j nameless) (wordsOf (now (line .entry))) ⌝ }
 {
-    let p = 5 * j;
-    if links[p + 3] != 0 {
+    let kind = links[5 * j + 3];
+    if kind == 7 {
+        return false;
+    }
+    if kind != 0 {
         return true;
     }
-    let at = links[p];
-    let own = line_at(text, at);
-    let end = own.end;
-    let own_line = &text[at..end];
-    let own_places = word_places(own_line);
-    (pipe_status(own_line, &own_places) != 2) & (status_said(line, places) != 2)
+    status_said(line, places) != 2
 }
 
 // A line of STATUS: 11 for a link that is not there, 10 for one that is not set so.

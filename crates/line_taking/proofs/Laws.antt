@@ -27,7 +27,7 @@ use Rattle.option_lines.specs.declared.settings.Settings.{Settings}
 use Rattle.option_lines.specs.Settings.{withOption}
 use Rattle.named_lines.specs.Named.{Named, nameless, positionOf, settledBy, wordsFrom, rowsOf, Kept, rowPut}
 use Rattle.named_lines.proofs.Laws.{rows-long, put-long, put-rows, put-kept, settled-rows, settled-kept}
-use Rattle.known.specs.Known.{Known, isKnown, nameFault, settable, settingFault, dataFault, lineFault, named, withNode, withLink, dataTaken, lineTaken}
+use Rattle.known.specs.Known.{Known, isKnown, nameFault, settable, settingFault, dataFault, lineFault, named, withNode, withLink, dataTaken, lineTaken, pipeKindOf}
 use Rattle.known.specs.Tables.{knownOf, Tabled}
 use Rattle.known.specs.declared.Progress.{Progress}
 
@@ -124,7 +124,7 @@ pub data Nodes-in : Section → ℕ → Type 0 where
   tanks : Nodes-in Tanks 2
 
 pub data Links-in (ws : List (List ℕ)) : Section → ℕ → Type 0 where
-  pipes : Links-in ws Pipes 0
+  pipes : Links-in ws Pipes (pipeKindOf ws)
   valves : Links-in ws Valves (valveKindOf ws)
 
 node-left : {s : Section} {kind : ℕ} (x : Known) (ws : List (List ℕ)) → Nodes-in s kind → dataFault s x ws ≡ 0 → length (x .nodes) < 512

@@ -8,9 +8,10 @@ ghost use Rattle.line_words.specs.Words.{wordsOf};
 ghost use Rattle.line_fields.specs.Fields.{wordIn};
 ghost use Rattle.word_places.specs.Places.{Words};
 ghost use Rattle.named_lines.specs.Named.{Kept, positionOf, rowsOf, settledBy};
-ghost use Rattle.known.specs.Known.{named, dataFault, dataTaken, lineFault, lineTaken};
+ghost use Rattle.known.specs.Known.{named, dataFault, dataTaken, lineFault, lineTaken, pipeKindOf};
 ghost use Rattle.known.specs.Tables.{knownOf, Tabled};
 use known::Progress;
+use link_lines::pipe_status;
 use link_lines::valve_kind;
 use named_lines::position;
 use named_lines::put_row;
@@ -121,6 +122,17 @@ fn with_settings(p: Progress, settings: Settings) -> Progress
     }
 }
 
+// 0, or 7 for a pipe with a check valve.
+fn pipe_kind(line: &[u8], places: &[usize; 20]) -> usize
+    requires { ⌜ Words (now line) (now places) ⌝ }
+    ensures { λ r. ⌜ r ≡ pipeKindOf (wordsOf (now (line .entry))) ⌝ }
+{
+    if pipe_status(line, places) == 2 {
+        return 7;
+    }
+    0
+}
+
 // A line that is no header.
 fn take_data(
     text: &[u8],
@@ -152,7 +164,8 @@ fn take_data(
             with_node(p)
         }
         Section::Pipes => {
-            keep(text, line, places, at, 0, p.links, links);
+            let kind = pipe_kind(line, places);
+            keep(text, line, places, at, kind, p.links, links);
             with_link(p)
         }
         Section::Valves => {

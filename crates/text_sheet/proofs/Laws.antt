@@ -27,7 +27,7 @@ use Rattle.text_units.specs.Units.{unitsOf, pressureFeet}
 use Rattle.text_units.specs.declared.Units.{Units}
 use Rattle.text_records.specs.Nodes.{nodeRecordOf}
 use Rattle.text_records.specs.Links.{linkRecordOf}
-use Rattle.text_sheet.specs.Sheet.{optionsIn, pressuresIn, headBytes, nodeWith, nodesBytes, linkWith, linksBytes, namesBytes, roomOf}
+use Rattle.text_sheet.specs.Sheet.{optionsIn, pressuresIn, headBytes, nodeWith, nodesBytes, linkWith, linksBytes, namesBytes, roomOf, recordKind}
 
 -- ---- what a function makes of each, one behind the other
 
@@ -175,9 +175,9 @@ module _ {s a : List ℕ} {at p : ℕ} where
   unfolding nodeWith rowOf
   node-put u multiplier t rows i n ws e f x = rw (← f, ← e) x
 
-  pub link-put : (u : Units) (nodes : List Named) (t rows : List ℕ) (j : ℕ) (k : Link) (ws said : List (List ℕ)) (v w : List ℕ) (start end : ℕ) → k ≡ linkRecordOf (getD rows (5 * j + 3) 0) u ws said start end → ws ≡ wordsFrom t (getD rows (5 * j) 0) → said ≡ wordsFrom t (getD rows (5 * j + 4) 0) → v ≡ getD ws 1 [] → w ≡ getD ws 2 [] → start ≡ positionOf v nodes → end ≡ positionOf w nodes → Put s at (linkBytes k) a p → Put s at (linkBytes (linkWith u nodes (rowOf t rows j))) a p
+  pub link-put : (u : Units) (nodes : List Named) (t rows : List ℕ) (j : ℕ) (k : Link) (ws said : List (List ℕ)) (v w : List ℕ) (start end kind : ℕ) → kind ≡ recordKind (getD rows (5 * j + 3) 0) → k ≡ linkRecordOf kind u ws said start end → ws ≡ wordsFrom t (getD rows (5 * j) 0) → said ≡ wordsFrom t (getD rows (5 * j + 4) 0) → v ≡ getD ws 1 [] → w ≡ getD ws 2 [] → start ≡ positionOf v nodes → end ≡ positionOf w nodes → Put s at (linkBytes k) a p → Put s at (linkBytes (linkWith u nodes (rowOf t rows j))) a p
   unfolding linkWith rowOf
-  link-put u nodes t rows j k ws said v w start end e f g m n b d x = rw (← f, ← g, ← m, ← n, ← b, ← d, ← e) x
+  link-put u nodes t rows j k ws said v w start end kind c e f g m n b d x = rw (← c, ← f, ← g, ← m, ← n, ← b, ← d, ← e) x
 
 -- ---- a turn: one row more
 

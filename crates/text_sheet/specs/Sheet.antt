@@ -2,7 +2,7 @@
 use Prim.Native.Nat.{ℕ, _+_, _-_, _*_}
 use mathlib.Core.Bool.{true, false, cond}
 use mathlib.Core.List.{List, [], _∷_, _++_}
-use lib.Dec.{leb}
+use lib.Dec.{eqb, leb}
 use lib.Ieee.{Float}
 use lib.ListN.{length}
 use Rattle.records.specs.declared.records.Options.{Options}
@@ -40,9 +40,13 @@ unfoldable pub nodesBytes : Settings → List Named → List ℕ
 nodesBytes o [] = []
 nodesBytes o (x ∷ xs) = nodeBytes (nodeWith (unitsOf (o .unit)) (o .multiplier) x) ++ nodesBytes o xs
 
+-- a pipe with a check valve, 7, is a pipe
+unfoldable pub recordKind : ℕ → ℕ
+recordKind kind = cond {A = ℕ} (eqb kind 7) 0 kind
+
 -- an end is the number of the node that has its name
 unfoldable pub linkWith : Units → List Named → Named → Link
-linkWith u nodes x = linkRecordOf (x .kind) u (x .words) (x .said) (positionOf (wordIn (x .words) 1) nodes) (positionOf (wordIn (x .words) 2) nodes)
+linkWith u nodes x = linkRecordOf (recordKind (x .kind)) u (x .words) (x .said) (positionOf (wordIn (x .words) 1) nodes) (positionOf (wordIn (x .words) 2) nodes)
 
 unfoldable pub linksBytes : Settings → List Named → List Named → List ℕ
 linksBytes o nodes [] = []

@@ -8,7 +8,7 @@ ghost use Rattle.line_words.specs.Words.{wordsOf};
 ghost use Rattle.named_lines.specs.Named.{Kept, Row, rowOf, rowsOf, wordsFrom};
 ghost use Rattle.sheet_bytes.specs.Bytes.{nodeBytes, linkBytes};
 ghost use Rattle.known.specs.Tables.{knownOf, Tabled};
-ghost use Rattle.text_sheet.specs.Sheet.{headBytes, nodeWith, nodesBytes, linkWith, linksBytes, sheetOf, sheetSize};
+ghost use Rattle.text_sheet.specs.Sheet.{headBytes, nodeWith, nodesBytes, linkWith, linksBytes, sheetOf, sheetSize, recordKind};
 use known::Progress;
 use lines::line_at;
 use named_lines::position;
@@ -116,6 +116,16 @@ fn put_nodes(
     end
 }
 
+// The kind as link_record takes it.
+fn record_kind(kind: usize) -> usize
+    ensures { λ r. ⌜ r ≡ recordKind kind ⌝ }
+{
+    if kind == 7 {
+        return 0;
+    }
+    kind
+}
+
 // The link of row j: its ends are the numbers of the nodes that it names.
 fn put_link_row(
     text: &[u8],
@@ -138,7 +148,7 @@ fn put_link_row(
     let places = word_places(line);
     let said = line_from(text, links[p + 4]);
     let said_places = word_places(said);
-    let kind = links[p + 3];
+    let kind = record_kind(links[p + 3]);
     let start = position(text, nodes, count, word(line, &places, 1));
     let stop = position(text, nodes, count, word(line, &places, 2));
     let k = link_record(

@@ -5,7 +5,7 @@ use Prim.Native.Nat.{ℕ}
 use borrow.Author.Needs.{needs}
 use denote.Ref.{now}
 use Rattle.line_words.specs.Words.{wordsOf}
-use Rattle.section_names.specs.declared.Section.the-variants.{Valves}
+use Rattle.section_names.specs.declared.Section.the-variants.{Pipes, Valves}
 use Rattle.line_taking.proofs.Laws.{Links-in, junctions, reservoirs, tanks, pipes, valves, node-fits, link-fits, node-known, link-known, link-found, set-known, option-known, nothing-taken}
 use Rattle.line_taking.proofs.take_data.Statement.{statement}
 use Rattle.line_taking.proofs.take_data.Tie as tie
@@ -65,11 +65,14 @@ returns-3 c =
     let start = start-of (told .before .before) in
     node-known (start .pre .0 .1) (words-of start) (told .enum-told3 .given .1) (start .pre .1 .1) tanks (put .keep3 .last .1 .1 .1 .1 .1 .1 .0) (put .keep3 .ensures) (c .with-node3 .result) (c .with-node3 .ensures)
 
--- pipes
+-- pipes: the kind is what `pipe_kind` gives
+
+pipe-told : (c : tie.After-pipe-kind) → Links-in (words-of (start-of (c .before .before .before))) Pipes (c .pipe-kind .result)
+pipe-told c = let start = start-of (c .before .before .before) in subst (Links-in (words-of start) Pipes) (sym (c .pipe-kind .ensures)) pipes
 
 keep-requires-4 : tie.Need-keep-requires-4
 keep-requires-4 c κs =
-    let told = c .before in
+    let told = c .before .before in
     let start = start-of (told .before .before) in
     let tabled = start .pre .0 .1 in
     ((start .pre .0 .0, tabled .links), (start .pre .1 .0, link-fits tabled (words-of start) (told .enum-told4 .given .1) (start .pre .1 .1) pipes))
@@ -77,9 +80,9 @@ keep-requires-4 c κs =
 returns-4 : tie.Need-returns-4
 returns-4 c =
     let put = c .before .before .before in
-    let told = put .before .before in
+    let told = put .before .before .before in
     let start = start-of (told .before .before) in
-    link-known (start .pre .0 .1) (words-of start) (told .enum-told4 .given .1) (start .pre .1 .1) pipes (put .keep4 .last .1 .1 .1 .1 .1 .1 .0) (put .keep4 .ensures) (c .with-link .result) (c .with-link .ensures)
+    link-known (start .pre .0 .1) (words-of start) (told .enum-told4 .given .1) (start .pre .1 .1) (pipe-told (put .before .before)) (put .keep4 .last .1 .1 .1 .1 .1 .1 .0) (put .keep4 .ensures) (c .with-link .result) (c .with-link .ensures)
 
 -- valves: the kind is what `valve_kind` gives
 
@@ -144,6 +147,7 @@ take-data-spec =
     keep-requires-3
     (λ c κs. search needs)
     (λ c. search needs)
+    (λ c κs. search needs)
     keep-requires-4
     (λ c κs. search needs)
     (λ c. search needs)
