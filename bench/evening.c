@@ -10,6 +10,7 @@
 #include <time.h>
 
 #include "../include/desk.h"
+#include "files.h"
 
 enum { ROWS = 32, NODES = 64, LINKS = 128, RECORD = 800, SCRATCH = 4096, LONGEST = 9199 };
 
@@ -131,16 +132,12 @@ int main(int count, char **words)
         return 2;
     }
     for (int i = 2; i < count; i++) {
-        FILE *file = fopen(words[i], "rb");
-        if (file == NULL) {
-            perror(words[i]);
+        long read = bytes_of(words[i], sheet, sizeof sheet);
+        if (read < 0)
             return 1;
-        }
-        length = fread(sheet, 1, sizeof sheet, file);
-        fclose(file);
+        length = (size_t)read;
         make();
-        const char *slash = strrchr(words[i], '/');
-        measure(slash ? slash + 1 : words[i], n);
+        measure(name_of(words[i]), n);
     }
     return 0;
 }

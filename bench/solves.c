@@ -7,6 +7,7 @@
 #include <time.h>
 
 #include "../include/desk.h"
+#include "files.h"
 
 enum { NODES = 64, LINKS = 128, RECORD = 800, SCRATCH = 4096, LONGEST = 65536 };
 
@@ -53,15 +54,10 @@ int main(int count, char **words)
         return 2;
     }
     for (int i = 2; i < count; i++) {
-        FILE *file = fopen(words[i], "rb");
-        if (file == NULL) {
-            perror(words[i]);
+        long length = bytes_of(words[i], sheet, sizeof sheet);
+        if (length < 0)
             return 1;
-        }
-        size_t length = fread(sheet, 1, sizeof sheet, file);
-        fclose(file);
-        const char *slash = strrchr(words[i], '/');
-        measure(slash ? slash + 1 : words[i], sheet, length, n);
+        measure(name_of(words[i]), sheet, (size_t)length, n);
     }
     return 0;
 }

@@ -9,6 +9,7 @@
 #include <time.h>
 
 #include "../include/desk.h"
+#include "files.h"
 
 enum { TEXT = 1 << 21, SHEET = 73263, NAMES = 49152 };
 
@@ -49,15 +50,10 @@ int main(int count, char **words)
         return 2;
     }
     for (int i = 2; i < count; i++) {
-        FILE *file = fopen(words[i], "rb");
-        if (file == NULL) {
-            perror(words[i]);
+        long length = bytes_of(words[i], text, sizeof text);
+        if (length < 0)
             return 1;
-        }
-        size_t length = fread(text, 1, sizeof text, file);
-        fclose(file);
-        const char *slash = strrchr(words[i], '/');
-        measure(slash ? slash + 1 : words[i], length, seconds);
+        measure(name_of(words[i]), (size_t)length, seconds);
     }
     return 0;
 }
