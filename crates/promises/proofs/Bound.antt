@@ -100,7 +100,7 @@ unfolding serving count
 serving-counts s l zero = refl
 serving-counts s l (suc n) = rw (serving-counts s l n)
 
-loose-most : (s : List ℕ) (l : Layout) (t : State) → loose s l t ≤ serving s l (l .nodes)
+pub loose-most : (s : List ℕ) (l : Layout) (t : State) → loose s l t ≤ serving s l (l .nodes)
 unfolding loose isLoose
 loose-most s l t =
     let h = count-most (l .nodes) (inService s l) (isLoose s l (t .grounded)) (λ i h. first-true (inService s l i) (not (getD (t .grounded) i false)) h) in
@@ -109,11 +109,11 @@ loose-most s l t =
 -- ---- what a repair lowers
 
 -- what is left to repair
-unfoldable left : List ℕ → Layout → State → ℕ
+unfoldable pub left : List ℕ → Layout → State → ℕ
 left s l t = active s l t + loose s l t
 
-record Lowered (s : List ℕ) (l : Layout) (t u : State) : Type 0 where
-  by-one : left s l t ≡ suc (left s l u)
+pub record Lowered (s : List ℕ) (l : Layout) (t u : State) : Type 0 where
+  pub by-one : left s l t ≡ suc (left s l u)
 
 -- a factorization stops at a junction in service, where the unknowns are those
 module _ (s : List ℕ) (l : Layout) (right : l .unknowns ≡ serving s l (l .nodes)) (t : State) (v : ℕ) (e : stopOf s l t ≡ At v) where
@@ -153,7 +153,7 @@ module _ (s : List ℕ) (l : Layout) (right : l .unknowns ≡ serving s l (l .no
 
 -- a failed trial after which the run goes on lowers what is left
 module _ (s : List ℕ) (l : Layout) (right : l .unknowns ≡ serving s l (l .nodes)) (d : Damping) (t : State) (m : Room l t) where
-  trial-lowers : (d' : Damping) → fails (trialOf s l d t .entry) ≡ true → goingOf d (trialOf s l d t .entry) ≡ On d' → Lowered s l t (trialOf s l d t .state)
+  pub trial-lowers : (d' : Damping) → fails (trialOf s l d t .entry) ≡ true → goingOf d (trialOf s l d t .entry) ≡ On d' → Lowered s l t (trialOf s l d t .state)
   unfolding goingOf
   trial-lowers d' =
       ways s l d t (λ o. fails (o .entry) ≡ true → goingOf d (o .entry) ≡ On d' → Lowered s l t (o .state))
@@ -186,7 +186,7 @@ module _ (s : List ℕ) (l : Layout) (right : l .unknowns ≡ serving s l (l .no
 
 -- ---- a run
 
-failing-none : failing [] ≡ 0
+pub failing-none : failing [] ≡ 0
 unfolding failing
 failing-none = refl
 

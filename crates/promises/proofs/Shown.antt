@@ -37,12 +37,12 @@ fails-has (Wild p) = refl
 fails-has (Stepped d flip) = refl
 fails-has (Converged flip) = refl
 
-fails-shown : (bytes : List ℕ) (i : ℕ) (e : Entry) → Shown bytes i e → failsAt bytes i ≡ fails e
+pub fails-shown : (bytes : List ℕ) (i : ℕ) (e : Entry) → Shown bytes i e → failsAt bytes i ≡ fails e
 unfolding failsAt
 fails-shown bytes i e w = rw (shows bytes i e w 86 70, shows bytes i e w 71 78, shows bytes i e w 83 71) (fails-has e)
 
 -- so many entries that fail, one after the other from the first on
-failing-least : (es : List Entry) (c : ℕ) → c ≤ length es → ((j : ℕ) → j < c → fails (getD es j noEntry) ≡ true) → c ≤ failing es
+pub failing-least : (es : List Entry) (c : ℕ) → c ≤ length es → ((j : ℕ) → j < c → fails (getD es j noEntry) ≡ true) → c ≤ failing es
 unfolding failing
 failing-least es zero h f = omega arith
 failing-least [] (suc c) h f = absurd (omega (arith, h))

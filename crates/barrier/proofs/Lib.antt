@@ -1,0 +1,9 @@
+pub mod Fractions
+pub mod Nonnegative
+pub mod Bounds
+pub mod Signs
+pub mod Squares
+pub mod Rooted
+pub mod Quotient
+pub mod Slope
+pub mod Theorem

@@ -1,0 +1,9 @@
+pub mod Grid
+pub mod Sizes
+pub mod Tests
+pub mod Numbers
+pub mod Powers
+pub mod Simple
+pub mod Valves
+pub mod Pipes
+pub mod Theorem

@@ -1,0 +1,11 @@
+pub mod Floats
+pub mod Pivots
+pub mod Fitting
+pub mod Joined
+pub mod Places
+pub mod Diagonal
+pub mod Conducting
+pub mod Flows
+pub mod Stops
+pub mod Bound
+pub mod Shown

@@ -1,0 +1,1 @@
+// No code: the statements stand in specs/, the theorems in proofs/.
