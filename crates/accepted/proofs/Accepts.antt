@@ -123,7 +123,7 @@ module _ (b : Bounds) (s : List ℕ) where
 
 -- ---- and back: what a reading of Good says of each search
 
-good-checked : (b : Bounds) (l k : Layout) (s : List ℕ) → checked b l s ≡ Good k → (badField b l s ≡ Nothing) × (badEnds l s ≡ Nothing) × (withUnknowns s l ≡ k)
+pub good-checked : (b : Bounds) (l k : Layout) (s : List ℕ) → checked b l s ≡ Good k → (badField b l s ≡ Nothing) × (badEnds l s ≡ Nothing) × (withUnknowns s l ≡ k)
 unfolding checked
 good-checked b l k s h = go (badField b l s) refl (badEnds l s) refl h
   where
@@ -132,7 +132,7 @@ good-checked b l k s h = go (badField b l s) refl (badEnds l s) refl h
     go Nothing pf (At p) pe q = absurd (let z : _≡_ {A = ℕ} 0 1 = cc in omega arith)
     go Nothing pf Nothing pe q = let same : withUnknowns s l ≡ k = cc in (pf, pe, same)
 
-good-counts : (b : Bounds) (l k : Layout) (s : List ℕ) → afterScan b l s ≡ Good k → (1 ≤ l .nodes) × (l .nodes ≤ b .nodes) × (l .links ≤ b .links) × (checked b l s ≡ Good k)
+pub good-counts : (b : Bounds) (l k : Layout) (s : List ℕ) → afterScan b l s ≡ Good k → (1 ≤ l .nodes) × (l .nodes ≤ b .nodes) × (l .links ≤ b .links) × (checked b l s ≡ Good k)
 unfolding afterScan
 good-counts b l k s h = go (leb 1 (l .nodes)) refl (leb (l .nodes) (b .nodes)) refl (leb (l .links) (b .links)) refl h
   where
@@ -142,7 +142,7 @@ good-counts b l k s h = go (leb 1 (l .nodes)) refl (leb (l .nodes) (b .nodes)) r
     go true px true py false pz q = absurd (let w : _≡_ {A = ℕ} 0 1 = cc in omega arith)
     go true px true py true pz q = (leb-true 1 (l .nodes) px, leb-true (l .nodes) (b .nodes) py, leb-true (l .links) (b .links) pz, q)
 
-good-laid : (b : Bounds) (s : List ℕ) (k : Layout) → readWith b s ≡ Good k → (hasOptions s ≡ true) × (endOf s ≡ length s) × (afterScan b (layoutOf s) s ≡ Good k)
+pub good-laid : (b : Bounds) (s : List ℕ) (k : Layout) → readWith b s ≡ Good k → (hasOptions s ≡ true) × (endOf s ≡ length s) × (afterScan b (layoutOf s) s ≡ Good k)
 unfolding readWith
 good-laid b s k h = go (hasOptions s) refl (eqb (endOf s) (length s)) refl h
   where

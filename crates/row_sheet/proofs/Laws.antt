@@ -1,14 +1,21 @@
--- One byte put, one demand put, and that the sheet stays as long as it was. Assumes nothing.
-use Prim.Native.Nat.{ℕ, zero, suc, _+_, _-_, _*_, _/_, _%_, _<_}
+-- One byte put, one demand put, that the sheet stays as long as it was, and the search for a bad demand. Assumes nothing.
+use Prim.Native.Nat.{ℕ, zero, suc, _+_, _-_, _*_, _/_, _%_, _≤_, _<_}
 use mathlib.Core.Path.{_≡_, refl, ap, _∙_, subst}
+use mathlib.Core.Bool.{true, false, not}
 use mathlib.Core.List.{List}
 use native.Mathlib.Numerals.{add-one}
 use native.Mathlib.Omega.{arith}
 use lib.ListN.{length, getD, set, length-set}
-use lib.Ieee.{Float, nan, binary64, toBits}
+use lib.Ieee.{Float, nan, binary64, toBits, le}
+use Rattle.float.specs.Sign.{absOf}
+use Rattle.found.specs.Searches.{firstFrom, firstOf}
+use Rattle.found.proofs.Firsts.{first-start, first-end, first-here, first-on}
+use Rattle.found.specs.declared.Found.the-variants.{At, Nothing}
+use Rattle.fields.specs.Fields.{baseBounds, within}
+use Rattle.fields.specs.declared.fields.Bounds.{Bounds}
 use Rattle.layout.specs.Places.{Laid, nodePlace}
 use Rattle.layout.specs.declared.places.Layout.{Layout}
-use Rattle.row_sheet.specs.RowSheet.{numberPut, demandsPut, rowSheet}
+use Rattle.row_sheet.specs.RowSheet.{numberPut, demandsPut, rowSheet, outside, nodeFound, badDemand}
 
 pub number-long : (k : ℕ) (s : List ℕ) (at number : ℕ) → length (numberPut k s at number) ≡ length s
 unfolding numberPut
@@ -58,3 +65,26 @@ demands-all i s₀ s l table r h e = e ∙ ap (λ (k : ℕ). demandsPut k s₀ l
 -- a sheet of the same length is laid out too
 pub laid-long : (l : Layout) (s s' : List ℕ) → length s' ≡ length s → Laid l s → Laid l s'
 laid-long l s s' e laid = record { options = laid .options; nodes = omega (arith, laid .nodes); links = omega (arith, laid .links); stride = laid .stride }
+
+-- ---- the search for a bad demand
+
+pub bad-start : (l : Layout) (table : List Float) (r k : ℕ) → k ≡ l .nodes → firstFrom (outside l table r) k 0 ≡ firstOf (outside l table r) (l .nodes)
+bad-start l table r k e = first-start (outside l table r) (l .nodes) k e
+
+-- what the test of node i said, as the code tests it
+module _ (l : Layout) (table : List Float) (r i : ℕ) (y : Float) (b : Bounds) (size : y ≡ absOf (getD table (r * l .nodes + i) nan)) (bounds : b ≡ baseBounds)
+    (left : firstFrom (outside l table r) (l .nodes - i) i ≡ firstOf (outside l table r) (l .nodes)) (more : i < l .nodes) where
+  tested : not (le y (b .magnitude)) ≡ outside l table r i
+  unfolding outside within
+  tested = rw (size, bounds)
+
+  pub bad-here : (place : ℕ) → not (le y (b .magnitude)) ≡ true → place ≡ nodePlace l i → At place ≡ badDemand l table r
+  unfolding badDemand
+  bad-here place h e = ap At e ∙ ap (nodeFound l) (first-here (outside l table r) (l .nodes) i _ left _ tested more h)
+
+  pub bad-on : not (le y (b .magnitude)) ≡ false → firstFrom (outside l table r) (l .nodes - (i + 1)) (i + 1) ≡ firstOf (outside l table r) (l .nodes)
+  bad-on h = first-on (outside l table r) (l .nodes) i _ left _ tested more h
+
+pub bad-none : (l : Layout) (table : List Float) (r i : ℕ) → firstFrom (outside l table r) (l .nodes - i) i ≡ firstOf (outside l table r) (l .nodes) → l .nodes ≤ i → Nothing ≡ badDemand l table r
+unfolding badDemand
+bad-none l table r i left h = ap (nodeFound l) (first-end (outside l table r) (l .nodes) i _ left h)

@@ -1,9 +1,12 @@
 // A row of demands put into a sheet. It knows where a node's demand stands, as records does, which reads it.
 ghost use mathlib.Core.Path.{_≡_};
-ghost use Prim.Native.Nat.{_+_, _*_, _≤_};
+ghost use Prim.Native.Nat.{_+_, _*_, _^_, _≤_, _<_};
 ghost use lib.ListN.{length};
-ghost use Rattle.layout.specs.Places.{Laid};
-ghost use Rattle.row_sheet.specs.RowSheet.{numberPut, rowSheet};
+ghost use Rattle.layout.specs.Places.{Laid, nodePlace};
+ghost use Rattle.row_sheet.specs.RowSheet.{numberPut, rowSheet, badDemand};
+use fields::base_bounds;
+use float::abs;
+use found::Found;
 use layout::Layout;
 use layout::node_place;
 use patterns::pattern;
@@ -33,4 +36,21 @@ pub fn put_row(sheet: &mut [u8], l: Layout, table: &[f64], r: usize)
             pattern(table[r * l.nodes + i]),
         );
     }
+}
+
+// The place of the first node whose demand in row r of the table is not within document 01's bounds.
+pub fn bad_demand(l: Layout, table: &[f64], r: usize) -> Found
+    requires { ⌜ nodePlace l (l .nodes) < 2 ^ 64 ⌝ }
+    requires { ⌜ (l .nodes ≤ 64) × (r ≤ 31) × (r * l .nodes + l .nodes ≤ length (now table)) ⌝ }
+    ensures { λ f. ⌜ f ≡ badDemand l (now (table .entry)) r ⌝ }
+{
+    let bounds = base_bounds();
+    let largest = bounds.magnitude;
+    let first = r * l.nodes;
+    for i in 0..l.nodes {
+        if !(abs(table[first + i]) <= largest) {
+            return Found::At(node_place(l, i));
+        }
+    }
+    Found::Nothing
 }

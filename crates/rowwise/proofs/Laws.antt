@@ -14,26 +14,36 @@ use lib.Ieee.{Float}
 use Rattle.layout.specs.Places.{heading, linkPlace}
 use Rattle.layout.proofs.Laws.{at-most}
 use Rattle.layout.specs.declared.places.Layout.{Layout}
+use Rattle.found.specs.declared.Found.{Found}
+use Rattle.found.specs.declared.Found.the-variants.{At, Nothing}
 use Rattle.fields.specs.Fields.{baseBounds}
 use Rattle.refusals.specs.Refusals.{numberOf, placeOf}
 use Rattle.refusals.specs.declared.refusals.Refusal.{Refusal}
+use Rattle.refusals.specs.declared.refusals.Refusal.the-variants.{Field}
 use Rattle.sheet.specs.Scan.{hasPressures, nodesOf, layoutOf}
 use Rattle.sheet.specs.Read.{readOf, withUnknowns}
 use Rattle.sheet.specs.declared.reading.Reading.{Reading}
 use Rattle.sheet.specs.declared.reading.Reading.the-variants.{Good, Refused}
 use Rattle.accepted.proofs.Accepts.{accepts}
 use Rattle.columns.specs.Columns.{copied}
-use Rattle.row_sheet.specs.RowSheet.{rowSheet}
+use Rattle.row_sheet.specs.RowSheet.{rowSheet, badDemand}
+use Rattle.row_reading.specs.RowReading.{unlessBad, rowReading, AllFit}
+use Rattle.row_reading.proofs.Theorem.{row-reads}
 use Rattle.tolerance.specs.declared.Limits.{Limits}
-use Rattle.answers.specs.Answers.{Solved}
+use Rattle.entries.specs.Entries.{none}
+use Rattle.answers.specs.declared.Answer.{Answer}
+use Rattle.answers.specs.Answers.{Lent, Solved, failedOf}
+use Rattle.trial.specs.Trial.{repairOf}
 use Rattle.solver.specs.Solve.{trialsOf, solveOf}
+use Rattle.solver.proofs.Laws.{solve-refused}
 use Rattle.sale.specs.Sale.{Sale, saleOf}
+use Rattle.sale.proofs.Laws.{sale-refused}
 use Rattle.rowwise.specs.declared.single.Judging.{Judging}
 use Rattle.rowwise.specs.declared.single.Judging.the-variants.{Off, By}
 use Rattle.rowwise.specs.declared.admitting.Called.{Called}
 use Rattle.rowwise.specs.declared.admitting.Lengths.{Lengths}
 use Rattle.rowwise.specs.Rooms.{Lends, lends, lentOf, lengthsOf, rowIn, rowPut, roomOf, roomPut, Fits}
-use Rattle.rowwise.specs.Evening.{widthOf, countsPut, verdictPut, totalsPut, rowOf, rowDone, rowsDone, called, lacking, admittedOf, Evening, afterAdmitted, afterRead, eveningOf}
+use Rattle.rowwise.specs.Evening.{widthOf, countsPut, verdictPut, totalsPut, rowOf, refusedCounts, rowDone, rowsDone, called, lacking, admittedOf, Evening, afterAdmitted, afterRead, eveningOf}
 
 -- the product of a few and a few
 pub product-few : {m n : ℕ} (a b : ℕ) → m ≤ a → n ≤ b → m * n ≤ a * b
@@ -61,6 +71,54 @@ pub row-by : (j : Judging) (s : List ℕ) (limits : Limits) (b : Lends) (o : Sal
     → lends (o .lent .heads) (o .lent .demands) (o .lent .flows) (o .lent .statuses) (o .lent .entries) n' t (o .lent .scratch) ≡ rowOf j s b
 unfolding rowOf
 row-by j s limits b o n n' t ej eo en et ev = rw (ej, ← eo, ev, en, et)
+
+-- a sheet that is refused with 3
+solve-field : (s : List ℕ) (place : ℕ) (b : Lent) → readOf s ≡ Refused (Field place) → record { answer = failedOf 3 place none; lent = b } ≡ solveOf s b
+unfolding numberOf placeOf
+solve-field s place b e = solve-refused repairOf s b (readOf s) refl (failedOf 3 place none) (Field place) e refl
+
+sale-field : (s : List ℕ) (limits : Limits) (place : ℕ) (b : Lent) → readOf s ≡ Refused (Field place)
+    → _≡_ {A = Sale} (record { answer = failedOf 3 place none; verdict = record { number = 1; place = 3 }; lent = b }) (saleOf s limits b)
+unfolding numberOf placeOf failedOf
+sale-field s limits place b e = sale-refused s limits b (readOf s) (failedOf 3 place none) (record { number = 1; place = 3 }) (Field place) refl e refl refl
+
+pub row-refused : (j : Judging) (s : List ℕ) (place : ℕ) (b : Lends) (n : List ℕ) (t : List Float) → readOf s ≡ Refused (Field place) → n ≡ refusedCounts j place (b .counts)
+    → t ≡ totalsPut (failedOf 3 place none) (b .totals) → lends (b .heads) (b .demands) (b .flows) (b .statuses) (b .entries) n t (b .scratch) ≡ rowOf j s b
+unfolding refusedCounts
+row-refused Off s place b n t e en et = row-off Off s b _ n t refl (solve-field s place (lentOf b) e) en et
+row-refused (By limits) s place b n t e en et = row-by (By limits) s limits b _ _ n t refl (sale-field s limits place (lentOf b) e) refl et en
+
+-- what a refused row tells
+number-three : (place : ℕ) → failedOf 3 place none .number ≡ 3
+unfolding failedOf
+number-three place = refl
+
+module _ (j : Judging) (place : ℕ) (a : Answer) (ea : a ≡ failedOf (numberOf (Field place)) (placeOf (Field place)) none) where
+  refused-answer : a ≡ failedOf 3 place none
+  unfolding numberOf placeOf
+  refused-answer = ea
+
+  pub refused-off : (x n : List ℕ) → j ≡ Off → n ≡ countsPut a x → n ≡ refusedCounts j place x
+  unfolding refusedCounts
+  refused-off x n ej en = rw (ej, ← refused-answer) en
+
+  pub refused-by : (limits : Limits) (x n n' : List ℕ) → j ≡ By limits → n ≡ countsPut a x → n' ≡ verdictPut (record { number = 1; place = a .number }) n → n' ≡ refusedCounts j place x
+  unfolding refusedCounts
+  refused-by limits x n n' ej en ev =
+      let three : a .number ≡ 3 = ap (λ (y : Answer). y .number) refused-answer ∙ number-three place in
+      rw (ej, ← refused-answer, ← en, ← three) ev
+
+  pub refused-totals : (x t : List Float) → t ≡ totalsPut a x → t ≡ totalsPut (failedOf 3 place none) x
+  refused-totals x t e = rw (← refused-answer) e
+
+-- a sheet by whether a bad demand was found
+pub found-bad : (s : List ℕ) (l : Layout) (bad : Found) (place : ℕ) → readOf s ≡ unlessBad bad l → bad ≡ At place → readOf s ≡ Refused (Field place)
+unfolding unlessBad
+found-bad s l bad place e h = rw h at e
+
+pub found-none : (s : List ℕ) (l : Layout) (bad : Found) → readOf s ≡ unlessBad bad l → bad ≡ Nothing → readOf s ≡ Good l
+unfolding unlessBad
+found-none s l bad e h = rw h at e
 
 pub few-counts : (j : Judging) → widthOf j ≤ 7
 unfolding widthOf
@@ -177,6 +235,13 @@ row-done j s l table r trials width zn zl ze zc zt b y copy copy' et ew en el ee
     let q : y ≡ rowOf j (rowSheet s l table r) (roomOf l (trialsOf s) (widthOf j) r b) =
     (rw (en, el, ee, ec, ez, et, ew) at ey) ∙ ap (λ (x : List ℕ). rowOf j x (roomOf l (trialsOf s) (widthOf j) r b)) p in
     rw (en, el, ee, ec, ez, et, ew, ← q)
+
+-- what the copy reads as once the row's demands stand in it
+pub row-read : (s copy copy' : List ℕ) (l : Layout) (table : List Float) (r : ℕ) (bad : Found) → readOf s ≡ Good l → AllFit table → bad ≡ badDemand l table r
+    → copy ≡ s → copy' ≡ rowSheet copy l table r → readOf copy' ≡ unlessBad bad l
+unfolding rowReading
+row-read s copy copy' l table r bad good fit eb es ep =
+    ap readOf (ep ∙ ap (λ (x : List ℕ). rowSheet x l table r) es) ∙ row-reads s l table r good fit ∙ ap (λ (f : Found). unlessBad f l) (sym eb)
 
 -- ---- the rows
 

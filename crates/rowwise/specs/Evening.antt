@@ -10,6 +10,8 @@ use Rattle.refusals.specs.Refusals.{numberOf, placeOf}
 use Rattle.sheet.specs.Read.{readOf}
 use Rattle.sheet.specs.declared.reading.Reading.{Reading}
 use Rattle.sheet.specs.declared.reading.Reading.the-variants.{Good, Refused}
+use Rattle.entries.specs.Entries.{none}
+use Rattle.answers.specs.Answers.{failedOf}
 use Rattle.answers.specs.declared.Answer.{Answer}
 use Rattle.solver.specs.Solve.{trialsOf, solveOf}
 use Rattle.sale.specs.Sale.{saleOf}
@@ -47,6 +49,12 @@ rowOf (By limits) s b =
     let o = saleOf s limits (lentOf b) in
     lends (o .lent .heads) (o .lent .demands) (o .lent .flows) (o .lent .statuses) (o .lent .entries) (verdictPut (o .verdict) (countsPut (o .answer) (b .counts))) (totalsPut (o .answer) (b .totals))
     (o .lent .scratch)
+
+-- the counts of a row whose sheet is refused with 3 at a place: verdict 1 at 3 where rows are judged
+unfoldable pub refusedCounts : Judging → ℕ → List ℕ → List ℕ
+unfolding countsPut verdictPut
+refusedCounts Off place x = countsPut (failedOf 3 place none) x
+refusedCounts (By limits) place x = verdictPut (record { number = 1; place = 3 }) (countsPut (failedOf 3 place none) x)
 
 -- ---- the rows
 

@@ -1,11 +1,19 @@
-// One row: the solve of its sheet, and the answer put into the row's room.
+// One row: the solve of its sheet, which was read but for its demands, and the answer put into the row's room.
 ghost use mathlib.Core.Path.{_≡_};
 ghost use Prim.Native.Nat.{_≤_};
 ghost use lib.ListN.{length};
+ghost use Rattle.sheet.specs.Read.{readOf};
+ghost use Rattle.entries.specs.Entries.{none};
+ghost use Rattle.answers.specs.Answers.{failedOf};
+ghost use Rattle.row_reading.specs.RowReading.{unlessBad};
 ghost use Rattle.rowwise.specs.Rooms.{lends};
-ghost use Rattle.rowwise.specs.Evening.{widthOf, countsPut, totalsPut, verdictPut, rowOf};
+ghost use Rattle.rowwise.specs.Evening.{widthOf, countsPut, totalsPut, verdictPut, rowOf, refusedCounts};
 use answers::Answer;
+use found::Found;
+use layout::Layout;
+use refusals::Refusal;
 use sale::Verdict;
+use sheet::Reading;
 use tolerance::Limits;
 
 // Whether each row is judged too, and by which limits.
@@ -52,9 +60,30 @@ fn put_verdict(v: Verdict, counts: &mut [u64])
     counts[6] = v.place as u64;
 }
 
-// A row's sheet solved in the row's room.
-pub fn solve_one(
+// The counts and totals of a row with a bad demand at a place.
+fn refuse_one(place: usize, judging: Judging, counts: &mut [u64], totals: &mut [f64])
+    requires { ⌜ (widthOf judging ≤ length (now counts)) × (3 ≤ length (now totals)) ⌝ }
+    ensures { λ _. ⌜ now (counts .exit) ≡ refusedCounts judging place (now (counts .entry)) ⌝ }
+    ensures { λ _. ⌜ now (totals .exit) ≡ totalsPut (failedOf 3 place none) (now (totals .entry)) ⌝ }
+{
+    let a = solver::refuse(Refusal::Field(place));
+    put_totals(a, totals);
+    put_counts(a, counts);
+    if let Judging::By(_) = judging {
+        put_verdict(
+            Verdict {
+                number: 1,
+                place: a.number,
+            },
+            counts,
+        );
+    }
+}
+
+// A row's good sheet solved in the row's room.
+fn solve_good(
     sheet: &[u8],
+    l: Layout,
     judging: Judging,
     heads: &mut [f64],
     demands: &mut [f64],
@@ -65,18 +94,20 @@ pub fn solve_one(
     totals: &mut [f64],
     scratch: &mut [f64],
 )
+    requires { ⌜ readOf (now sheet) ≡ Reading.Good l ⌝ }
     requires { ⌜ (widthOf judging ≤ length (now counts)) × (3 ≤ length (now totals)) ⌝ }
     ensures { λ _. ⌜ lends (now (heads .exit)) (now (demands .exit)) (now (flows .exit)) (now (statuses .exit)) (now (entries .exit)) (now (counts .exit)) (now (totals .exit)) (now (scratch .exit)) ≡ rowOf judging (now (sheet .entry)) (lends (now (heads .entry)) (now (demands .entry)) (now (flows .entry)) (now (statuses .entry)) (now (entries .entry)) (now (counts .entry)) (now (totals .entry)) (now (scratch .entry))) ⌝ }
 {
     match judging {
         Judging::Off => {
-            let a = solver::solve(sheet, heads, demands, flows, statuses, entries, scratch);
+            let a = solver::solve_read(sheet, l, heads, demands, flows, statuses, entries, scratch);
             put_counts(a, counts);
             put_totals(a, totals);
         }
         Judging::By(limits) => {
-            let s = sale::sell(
+            let s = sale::sell_read(
                 sheet,
+                l,
                 limits,
                 heads,
                 demands,
@@ -89,5 +120,42 @@ pub fn solve_one(
             put_totals(s.answer, totals);
             put_verdict(s.verdict, counts);
         }
+    }
+}
+
+// A row's sheet solved in the row's room, or refused where a bad demand was found.
+pub fn solve_one(
+    sheet: &[u8],
+    l: Layout,
+    bad: Found,
+    judging: Judging,
+    heads: &mut [f64],
+    demands: &mut [f64],
+    flows: &mut [f64],
+    statuses: &mut [u8],
+    entries: &mut [u8],
+    counts: &mut [u64],
+    totals: &mut [f64],
+    scratch: &mut [f64],
+)
+    requires { ⌜ readOf (now sheet) ≡ unlessBad bad l ⌝ }
+    requires { ⌜ (widthOf judging ≤ length (now counts)) × (3 ≤ length (now totals)) ⌝ }
+    ensures { λ _. ⌜ lends (now (heads .exit)) (now (demands .exit)) (now (flows .exit)) (now (statuses .exit)) (now (entries .exit)) (now (counts .exit)) (now (totals .exit)) (now (scratch .exit)) ≡ rowOf judging (now (sheet .entry)) (lends (now (heads .entry)) (now (demands .entry)) (now (flows .entry)) (now (statuses .entry)) (now (entries .entry)) (now (counts .entry)) (now (totals .entry)) (now (scratch .entry))) ⌝ }
+{
+    match bad {
+        Found::At(place) => refuse_one(place, judging, counts, totals),
+        Found::Nothing => solve_good(
+            sheet,
+            l,
+            judging,
+            heads,
+            demands,
+            flows,
+            statuses,
+            entries,
+            counts,
+            totals,
+            scratch,
+        ),
     }
 }

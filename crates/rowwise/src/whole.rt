@@ -50,10 +50,13 @@ fn solve_row(
     let c2 = c + wide;
     let t = r * 3;
     let t2 = t + 3;
+    let bad = row_sheet::bad_demand(l, table, r);
     columns::copy_bytes(copy, sheet, sheet.len());
     row_sheet::put_row(copy, l, table, r);
     solve_one(
         copy,
+        l,
+        bad,
         judging,
         &mut heads[n..n2],
         &mut demands[n..n2],

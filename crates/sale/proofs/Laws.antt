@@ -24,13 +24,15 @@ use Rattle.pressures_low.specs.Low.{lowOf}
 use Rattle.sheet.specs.Read.{readOf}
 use Rattle.sheet.specs.declared.reading.Reading.{Reading}
 use Rattle.sheet.specs.declared.reading.Reading.the-variants.{Good, Refused}
+use Rattle.refusals.specs.Refusals.{numberOf, placeOf}
 use Rattle.refusals.specs.declared.refusals.Refusal.{Refusal}
 use Rattle.answers.specs.declared.Answer.{Answer}
 use Rattle.answers.specs.Answers.{Lent, Solved, Enough, tooShort, refusedOf, failedOf}
 use Rattle.answers.proofs.Laws.{enough}
+use Rattle.entries.specs.Entries.{none}
 use Rattle.trial.specs.Trial.{repairOf}
 use Rattle.solver.specs.Solve.{trialsOf, afterShort, afterRead, solveWith, solveOf}
-use Rattle.solver.proofs.Laws.{few-trials}
+use Rattle.solver.proofs.Laws.{few-trials, solve-refused, solve-good}
 use Rattle.solver.proofs.Trials.{allowed-trials}
 use Rattle.sale.specs.Sale.{sold, toldOf, firstLine, rule, flowsTold, judgeOf, Ample, Backed, unsold, verdictBy, verdictOf, Sale, saleOf}
 use Rattle.sale.specs.declared.judging.Verdict.{Verdict}
@@ -60,22 +62,17 @@ unfolding judgeOf rule firstLine flowsTold
 judge-of s l limits trials h d q c r low ill unheld undetermined shown eighth seventh sixth fourth third v e8 t8 e7 t7 e6 t6 t4 e3 t3 e2 t2 =
     rw (t2, e2, t3, e3, t4, t6, e6, t7, e7, t8, e8)
 
--- ---- the verdict by what the sheet reads as
+-- ---- the verdict on an answer to a sheet that was read
 
-module _ (s : List ℕ) (limits : Limits) (a : Answer) (b : Lent) (r : Reading) (read : r ≡ readOf s) where
-  pub decide-refused : (z : Refusal) (v : Verdict) → r ≡ Refused z → v ≡ unsold a → v ≡ verdictBy s limits (record { answer = a; lent = b }) (readOf s)
+module _ (s : List ℕ) (limits : Limits) (a : Answer) (b : Lent) (l : Layout) where
+  pub decide-unsold : (v : Verdict) → eqb (a .number) 0 ≡ false → v ≡ unsold a → v ≡ verdictBy s limits (record { answer = a; lent = b }) (Good l)
   unfolding verdictBy
-  decide-refused z v e k = rw (← read, e) k
+  decide-unsold v n k = rw n k
 
-  module _ (l : Layout) (good : r ≡ Good l) where
-    pub decide-unsold : (v : Verdict) → eqb (a .number) 0 ≡ false → v ≡ unsold a → v ≡ verdictBy s limits (record { answer = a; lent = b }) (readOf s)
-    unfolding verdictBy
-    decide-unsold v n k = rw (← read, good, n) k
-
-    pub decide-judged : (v : Verdict) → eqb (a .number) 0 ≡ true → v ≡ judgeOf s l limits (a .trials) (b .heads) (b .demands) (b .flows) (b .statuses) (b .entries)
-        → v ≡ verdictBy s limits (record { answer = a; lent = b }) (readOf s)
-    unfolding verdictBy
-    decide-judged v n k = rw (← read, good, n) k
+  pub decide-judged : (v : Verdict) → eqb (a .number) 0 ≡ true → v ≡ judgeOf s l limits (a .trials) (b .heads) (b .demands) (b .flows) (b .statuses) (b .entries)
+      → v ≡ verdictBy s limits (record { answer = a; lent = b }) (Good l)
+  unfolding verdictBy
+  decide-judged v n k = rw n k
 
 -- ---- what a solve leaves room for
 
@@ -109,7 +106,16 @@ backed s b a h d q c r e lh ld lq lc lr =
           };
     }
 
-pub sale-of : (s : List ℕ) (limits : Limits) (b b' : Lent) (a : Answer) (v : Verdict) → record { answer = a; lent = b' } ≡ solveOf s b
-    → v ≡ verdictBy s limits (record { answer = a; lent = b' }) (readOf s) → _≡_ {A = Sale} (record { answer = a; verdict = v; lent = b' }) (saleOf s limits b)
+-- the solve of a sheet that was read is its solve
+pub solved-as : (s : List ℕ) (l : Layout) (b : Lent) (o : Solved) → readOf s ≡ Good l → o ≡ afterRead repairOf s b (Good l) → o ≡ solveOf s b
+solved-as s l b o good e = solve-good repairOf s b (readOf s) refl o l good e
+
+pub sale-of : (s : List ℕ) (l : Layout) (limits : Limits) (b b' : Lent) (a : Answer) (v : Verdict) → readOf s ≡ Good l → record { answer = a; lent = b' } ≡ solveOf s b
+    → v ≡ verdictBy s limits (record { answer = a; lent = b' }) (Good l) → _≡_ {A = Sale} (record { answer = a; verdict = v; lent = b' }) (saleOf s limits b)
 unfolding saleOf verdictOf
-sale-of s limits b b' a v e k = rw (← e, k)
+sale-of s l limits b b' a v good e k = rw (← e, good, k)
+
+pub sale-refused : (s : List ℕ) (limits : Limits) (b : Lent) (reading : Reading) (a : Answer) (v : Verdict) (r : Refusal) → reading ≡ readOf s → reading ≡ Refused r → a ≡ failedOf (numberOf r) (placeOf r) none
+    → v ≡ unsold a → _≡_ {A = Sale} (record { answer = a; verdict = v; lent = b }) (saleOf s limits b)
+unfolding saleOf verdictOf verdictBy
+sale-refused s limits b reading a v r read e ea ev = rw (← solve-refused repairOf s b reading read a r e ea, ← read, e, ev)

@@ -7,3 +7,4 @@ pub use judging::Verdict;
 pub use judging::judge;
 pub use selling::Sold;
 pub use selling::sell;
+pub use selling::sell_read;

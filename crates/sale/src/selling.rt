@@ -8,6 +8,7 @@ ghost use Rattle.sale.specs.Sale.{Backed, verdictBy, saleOf};
 use crate::judging::Verdict;
 use crate::judging::judge;
 use answers::Answer;
+use layout::Layout;
 use sheet::Reading;
 use tolerance::Limits;
 
@@ -27,9 +28,10 @@ fn unsold(number: usize) -> Verdict
     }
 }
 
-// The verdict on an answer with the results and the record that were lent.
+// The verdict on an answer to a sheet that was read, with the results and the record that were lent.
 fn decide(
     sheet: &[u8],
+    l: Layout,
     limits: Limits,
     answer: Answer,
     heads: &[f64],
@@ -38,27 +40,56 @@ fn decide(
     statuses: &[u8],
     entries: &[u8],
 ) -> Verdict
+    requires { ⌜ readOf (now sheet) ≡ Reading.Good l ⌝ }
     requires { ⌜ Backed (now sheet) answer (now heads) (now demands) (now flows) (now statuses) (now entries) ⌝ }
-    ensures { λ r. ⌜ ((scratch : List Float) → r ≡ verdictBy (now (sheet .entry)) limits (record { answer = answer; lent = lent (now (heads .entry)) (now (demands .entry)) (now (flows .entry)) (now (statuses .entry)) (now (entries .entry)) scratch }) (readOf (now (sheet .entry)))) ⌝ }
+    ensures { λ r. ⌜ ((scratch : List Float) → r ≡ verdictBy (now (sheet .entry)) limits (record { answer = answer; lent = lent (now (heads .entry)) (now (demands .entry)) (now (flows .entry)) (now (statuses .entry)) (now (entries .entry)) scratch }) (Reading.Good l)) ⌝ }
 {
-    match sheet::read(sheet) {
-        Reading::Refused(r) => unsold(answer.number),
-        Reading::Good(l) => {
-            if answer.number != 0 {
-                return unsold(answer.number);
-            }
-            judge(
-                sheet,
-                l,
-                limits,
-                answer.trials,
-                heads,
-                demands,
-                flows,
-                statuses,
-                entries,
-            )
-        }
+    if answer.number != 0 {
+        return unsold(answer.number);
+    }
+    judge(
+        sheet,
+        l,
+        limits,
+        answer.trials,
+        heads,
+        demands,
+        flows,
+        statuses,
+        entries,
+    )
+}
+
+// Solves a sheet that was read, and tells whether the answer may be sold.
+pub fn sell_read(
+    sheet: &[u8],
+    l: Layout,
+    limits: Limits,
+    heads: &mut [f64],
+    demands: &mut [f64],
+    flows: &mut [f64],
+    statuses: &mut [u8],
+    entries: &mut [u8],
+    scratch: &mut [f64],
+) -> Sold
+    requires { ⌜ readOf (now sheet) ≡ Reading.Good l ⌝ }
+    ensures { λ r. ⌜ record { answer = r .answer; verdict = r .verdict; lent = lent (now (heads .exit)) (now (demands .exit)) (now (flows .exit)) (now (statuses .exit)) (now (entries .exit)) (now (scratch .exit)) } ≡ saleOf (now (sheet .entry)) limits (lent (now (heads .entry)) (now (demands .entry)) (now (flows .entry)) (now (statuses .entry)) (now (entries .entry)) (now (scratch .entry))) ⌝ }
+{
+    let answer = solver::solve_read(sheet, l, heads, demands, flows, statuses, entries, scratch);
+    let verdict = decide(
+        sheet,
+        l,
+        limits,
+        answer,
+        heads,
+        demands,
+        flows,
+        statuses,
+        entries,
+    );
+    Sold {
+        answer: answer,
+        verdict: verdict,
     }
 }
 
@@ -75,19 +106,25 @@ pub fn sell(
 ) -> Sold
     ensures { λ r. ⌜ record { answer = r .answer; verdict = r .verdict; lent = lent (now (heads .exit)) (now (demands .exit)) (now (flows .exit)) (now (statuses .exit)) (now (entries .exit)) (now (scratch .exit)) } ≡ saleOf (now (sheet .entry)) limits (lent (now (heads .entry)) (now (demands .entry)) (now (flows .entry)) (now (statuses .entry)) (now (entries .entry)) (now (scratch .entry))) ⌝ }
 {
-    let answer = solver::solve(sheet, heads, demands, flows, statuses, entries, scratch);
-    let verdict = decide(
-        sheet,
-        limits,
-        answer,
-        heads,
-        demands,
-        flows,
-        statuses,
-        entries,
-    );
-    Sold {
-        answer: answer,
-        verdict: verdict,
+    match sheet::read(sheet) {
+        Reading::Refused(r) => {
+            let answer = solver::refuse(r);
+            let verdict = unsold(answer.number);
+            Sold {
+                answer: answer,
+                verdict: verdict,
+            }
+        }
+        Reading::Good(l) => sell_read(
+            sheet,
+            l,
+            limits,
+            heads,
+            demands,
+            flows,
+            statuses,
+            entries,
+            scratch,
+        ),
     }
 }

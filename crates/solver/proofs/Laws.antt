@@ -94,18 +94,24 @@ solved-of repair s l trials b f o et ef eo = rw (← ef, ← et) eo
 
 -- ---- before the run
 
+pub refused-as : (a : Answer) (r : Refusal) (number place : ℕ) → number ≡ numberOf r → place ≡ placeOf r → a ≡ failedOf number place none → a ≡ failedOf (numberOf r) (placeOf r) none
+refused-as a r number place en ep ea = rw (← en, ← ep) ea
+
 module _ (repair : Repair) (s : List ℕ) (b : Lent) (reading : Reading) (read : reading ≡ readOf s) where
-  pub solve-refused : (a : Answer) (r : Refusal) (number place : ℕ) → reading ≡ Refused r → number ≡ numberOf r → place ≡ placeOf r → a ≡ failedOf number place none
-      → record { answer = a; lent = b } ≡ solveWith repair s b
+  pub solve-refused : (a : Answer) (r : Refusal) → reading ≡ Refused r → a ≡ failedOf (numberOf r) (placeOf r) none → record { answer = a; lent = b } ≡ solveWith repair s b
   unfolding solveWith afterRead refusedOf
-  solve-refused a r number place e en ep ea = rw (← read, e, ea, en, ep)
+  solve-refused a r e ea = rw (← read, e, ea)
 
-  module _ (l : Layout) (trials : ℕ) (f : Found) (good : reading ≡ Good l) (allowed : trials ≡ trialsOf s)
-      (short : f ≡ tooShort l trials (length (b .heads)) (length (b .demands)) (length (b .flows)) (length (b .statuses)) (length (b .entries)) (length (b .scratch))) where
-    pub solve-short : (a : Answer) (place : ℕ) → f ≡ At place → a ≡ failedOf 5 place none → record { answer = a; lent = b } ≡ solveWith repair s b
-    unfolding solveWith afterRead afterShort refusedOf
-    solve-short a place e ea = rw (← read, good, ← allowed, ← short, e, ea)
+  pub solve-good : (o : Solved) (l : Layout) → reading ≡ Good l → o ≡ afterRead repair s b (Good l) → o ≡ solveWith repair s b
+  unfolding solveWith
+  solve-good o l e eo = rw (← read, e) eo
 
-    pub solve-runs : (o : Solved) → f ≡ Nothing → o ≡ solvedWith repair s l b → o ≡ solveWith repair s b
-    unfolding solveWith afterRead afterShort
-    solve-runs o e eo = rw (← read, good, ← allowed, ← short, e) eo
+module _ (repair : Repair) (s : List ℕ) (b : Lent) (l : Layout) (trials : ℕ) (f : Found) (allowed : trials ≡ trialsOf s)
+    (short : f ≡ tooShort l trials (length (b .heads)) (length (b .demands)) (length (b .flows)) (length (b .statuses)) (length (b .entries)) (length (b .scratch))) where
+  pub solve-short : (a : Answer) (place : ℕ) → f ≡ At place → a ≡ failedOf 5 place none → record { answer = a; lent = b } ≡ afterRead repair s b (Good l)
+  unfolding afterRead afterShort refusedOf
+  solve-short a place e ea = rw (← allowed, ← short, e, ea)
+
+  pub solve-runs : (o : Solved) → f ≡ Nothing → o ≡ solvedWith repair s l b → o ≡ afterRead repair s b (Good l)
+  unfolding afterRead afterShort
+  solve-runs o e eo = rw (← allowed, ← short, e) eo

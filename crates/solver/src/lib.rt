@@ -2,18 +2,43 @@
 ghost use mathlib.Core.Path.{_≡_};
 ghost use Prim.Native.Nat.{_*_, _≤_};
 ghost use lib.ListN.{length};
+ghost use Rattle.refusals.specs.Refusals.{numberOf, placeOf};
 ghost use Rattle.sheet.specs.Read.{readOf};
 ghost use Rattle.state.specs.State.{state};
-ghost use Rattle.answers.specs.Answers.{lent, Enough};
+ghost use Rattle.entries.specs.Entries.{none};
+ghost use Rattle.answers.specs.Answers.{lent, failedOf, Enough};
 ghost use Rattle.conclusion.specs.Conclusion.{emptied};
 ghost use Rattle.trial.specs.Trial.{Room, repairOf};
-ghost use Rattle.solver.specs.Solve.{trialsOf, startOf, runOf, solvedWith, solveOf};
+ghost use Rattle.solver.specs.Solve.{trialsOf, startOf, runOf, solvedWith, afterRead, solveOf};
 use answers::Answer;
 use entries::Tally;
 use found::Found;
 use layout::Layout;
+use refusals::Refusal;
 use runs::Ran;
 use sheet::Reading;
+
+// An answer before any trial.
+fn refused(number: usize, place: usize) -> Answer
+    ensures { λ a. ⌜ a ≡ failedOf number place none ⌝ }
+{
+    answers::failed(
+        number,
+        place,
+        Tally {
+            trials: 0,
+            freed: 0,
+            grounded: 0,
+        },
+    )
+}
+
+// The answer to a sheet that is refused.
+pub fn refuse(r: Refusal) -> Answer
+    ensures { λ a. ⌜ a ≡ failedOf (numberOf r) (placeOf r) none ⌝ }
+{
+    refused(refusals::refusal_number(r), refusals::refusal_place(r))
+}
 
 // The run of a sheet that was read, from its first columns.
 fn run(
@@ -120,6 +145,47 @@ fn solved(
     )
 }
 
+// The solve of a sheet that was read.
+pub fn solve_read(
+    sheet: &[u8],
+    l: Layout,
+    heads: &mut [f64],
+    demands: &mut [f64],
+    flows: &mut [f64],
+    statuses: &mut [u8],
+    entries: &mut [u8],
+    scratch: &mut [f64],
+) -> Answer
+    requires { ⌜ readOf (now sheet) ≡ Reading.Good l ⌝ }
+    ensures { λ r. ⌜ record { answer = r; lent = lent (now (heads .exit)) (now (demands .exit)) (now (flows .exit)) (now (statuses .exit)) (now (entries .exit)) (now (scratch .exit)) } ≡ afterRead repairOf (now (sheet .entry)) (lent (now (heads .entry)) (now (demands .entry)) (now (flows .entry)) (now (statuses .entry)) (now (entries .entry)) (now (scratch .entry))) (Reading.Good l) ⌝ }
+{
+    let options = records::options_of(sheet);
+    let trials = options.trials;
+    match answers::too_short(
+        l,
+        trials,
+        heads.len(),
+        demands.len(),
+        flows.len(),
+        statuses.len(),
+        entries.len(),
+        scratch.len(),
+    ) {
+        Found::At(place) => refused(5, place),
+        Found::Nothing => solved(
+            sheet,
+            l,
+            trials,
+            heads,
+            demands,
+            flows,
+            statuses,
+            entries,
+            scratch,
+        ),
+    }
+}
+
 pub fn solve(
     sheet: &[u8],
     heads: &mut [f64],
@@ -131,43 +197,8 @@ pub fn solve(
 ) -> Answer
     ensures { λ r. ⌜ record { answer = r; lent = lent (now (heads .exit)) (now (demands .exit)) (now (flows .exit)) (now (statuses .exit)) (now (entries .exit)) (now (scratch .exit)) } ≡ solveOf (now (sheet .entry)) (lent (now (heads .entry)) (now (demands .entry)) (now (flows .entry)) (now (statuses .entry)) (now (entries .entry)) (now (scratch .entry))) ⌝ }
 {
-    let none = Tally {
-        trials: 0,
-        freed: 0,
-        grounded: 0,
-    };
     match sheet::read(sheet) {
-        Reading::Refused(r) => answers::failed(
-            refusals::refusal_number(r),
-            refusals::refusal_place(r),
-            none,
-        ),
-        Reading::Good(l) => {
-            let options = records::options_of(sheet);
-            let trials = options.trials;
-            match answers::too_short(
-                l,
-                trials,
-                heads.len(),
-                demands.len(),
-                flows.len(),
-                statuses.len(),
-                entries.len(),
-                scratch.len(),
-            ) {
-                Found::At(place) => answers::failed(5, place, none),
-                Found::Nothing => solved(
-                    sheet,
-                    l,
-                    trials,
-                    heads,
-                    demands,
-                    flows,
-                    statuses,
-                    entries,
-                    scratch,
-                ),
-            }
-        }
+        Reading::Refused(r) => refuse(r),
+        Reading::Good(l) => solve_read(sheet, l, heads, demands, flows, statuses, entries, scratch),
     }
 }

@@ -7,7 +7,7 @@ use lib.ListN.{length}
 use Rattle.row_sheet.proofs.Laws.{laid-long}
 use Rattle.solver.proofs.Laws.{network-of, few-trials}
 use Rattle.rowwise.specs.Rooms.{Lends, lends, lengthsOf, Fits}
-use Rattle.rowwise.proofs.Laws.{few-counts, Ends, ends, part-size, part-long, put-long, whole-copy, row-done}
+use Rattle.rowwise.proofs.Laws.{few-counts, few-bytes, Ends, ends, part-size, part-long, put-long, whole-copy, row-read, row-done}
 use Rattle.rowwise.proofs.whole.solve_row.Statement.{statement}
 use Rattle.rowwise.proofs.whole.solve_row.Tie as tie
 
@@ -15,8 +15,12 @@ use Rattle.rowwise.proofs.whole.solve_row.Tie as tie
 abbrev start-of : tie.After-width → tie.Start
 start-of w = w .before .before .before .before .before .before .before .before .before .before .before .before
 
+-- what is known of the table's entries
+abbrev table-of : tie.After-width → tie.After-shared-slice-known2
+table-of w = w .before .before .before .before .before .before .before .before .before .before
+
 abbrev width-of : tie.After-copy-bytes → tie.After-width
-width-of p = p .before .before .before .before .before .before
+width-of p = p .before .before .before .before .before .before .before
 
 abbrev copied-of : tie.After-put-row → tie.After-copy-bytes
 copied-of p = p .before .before .before .before
@@ -76,8 +80,16 @@ mul-t c = omega (arith, rooms (c .before .before .before .before) .sums)
 add-t2 : tie.Need-add-t2
 add-t2 c = omega (arith, rooms (c .before .before .before .before) .sums)
 
+bad-demand-requires : tie.Need-bad-demand-requires
+bad-demand-requires c κs =
+    let w = c .before .before .before .before in
+    let start = start-of w in
+    let a = start .args in
+    let net = network-of _ _ (start .pre .0) in
+    (omega (arith, net .laid .nodes, few-bytes (a .sheet .now) (a .l) (start .pre .0)), (net .nodes, omega (arith, start .pre .1 .1 .1 .few), rooms w .table))
+
 copy-bytes-requires : tie.Need-copy-bytes-requires
-copy-bytes-requires c κs = let start = start-of (c .before .before .before .before .before) in (omega (arith, start .pre .1 .1 .0), omega arith)
+copy-bytes-requires c κs = let start = start-of (c .before .before .before .before .before .before) in (omega (arith, start .pre .1 .1 .0), omega arith)
 
 put-row-requires : tie.Need-put-row-requires
 put-row-requires c κs =
@@ -90,7 +102,7 @@ put-row-requires c κs =
     (laid-long (a .l) (a .sheet .now) (p .copy-bytes .last .0) (ap length e) (net .laid), (net .nodes, omega (arith, start .pre .1 .1 .1 .few), rooms w .table))
 
 mul-solve-one : tie.Need-mul-solve-one
-mul-solve-one c = omega (arith, rooms (c .before .before .before .before .before .before .before .before .before .before .before .before .before) .nodes)
+mul-solve-one c = omega (arith, rooms (c .before .before .before .before .before .before .before .before .before .before .before .before .before .before) .nodes)
 
 sub-solve-one : tie.Need-sub-solve-one
 sub-solve-one c = omega arith
@@ -99,10 +111,10 @@ part-solve-one-start : tie.Need-part-solve-one-start
 part-solve-one-start c = omega arith
 
 part-solve-one-end : tie.Need-part-solve-one-end
-part-solve-one-end c = rooms (c .before .before .before .before .before .before .before .before .before .before .before .before .before) .heads
+part-solve-one-end c = rooms (c .before .before .before .before .before .before .before .before .before .before .before .before .before .before) .heads
 
 mul-solve-one-2 : tie.Need-mul-solve-one-2
-mul-solve-one-2 c = omega (arith, rooms (c .before .before .before .before .before .before .before .before .before .before .before .before .before .before) .nodes)
+mul-solve-one-2 c = omega (arith, rooms (c .before .before .before .before .before .before .before .before .before .before .before .before .before .before .before) .nodes)
 
 sub-solve-one-2 : tie.Need-sub-solve-one-2
 sub-solve-one-2 c = omega arith
@@ -111,10 +123,10 @@ part-solve-one-start-2 : tie.Need-part-solve-one-start-2
 part-solve-one-start-2 c = omega arith
 
 part-solve-one-end-2 : tie.Need-part-solve-one-end-2
-part-solve-one-end-2 c = rooms (c .before .before .before .before .before .before .before .before .before .before .before .before .before .before) .demands
+part-solve-one-end-2 c = rooms (c .before .before .before .before .before .before .before .before .before .before .before .before .before .before .before) .demands
 
 mul-solve-one-3 : tie.Need-mul-solve-one-3
-mul-solve-one-3 c = omega (arith, rooms (c .before .before .before .before .before .before .before .before .before .before .before .before .before .before .before) .links)
+mul-solve-one-3 c = omega (arith, rooms (c .before .before .before .before .before .before .before .before .before .before .before .before .before .before .before .before) .links)
 
 sub-solve-one-3 : tie.Need-sub-solve-one-3
 sub-solve-one-3 c = omega arith
@@ -123,7 +135,7 @@ part-solve-one-start-3 : tie.Need-part-solve-one-start-3
 part-solve-one-start-3 c = omega arith
 
 part-solve-one-end-3 : tie.Need-part-solve-one-end-3
-part-solve-one-end-3 c = rooms (c .before .before .before .before .before .before .before .before .before .before .before .before .before .before .before) .flows
+part-solve-one-end-3 c = rooms (c .before .before .before .before .before .before .before .before .before .before .before .before .before .before .before .before) .flows
 
 sub-solve-one-4 : tie.Need-sub-solve-one-4
 sub-solve-one-4 c = omega arith
@@ -132,7 +144,7 @@ part-solve-one-start-4 : tie.Need-part-solve-one-start-4
 part-solve-one-start-4 c = omega arith
 
 part-solve-one-end-4 : tie.Need-part-solve-one-end-4
-part-solve-one-end-4 c = rooms (c .before .before .before .before .before .before .before .before .before .before .before .before .before .before .before .before) .statuses
+part-solve-one-end-4 c = rooms (c .before .before .before .before .before .before .before .before .before .before .before .before .before .before .before .before .before) .statuses
 
 sub-solve-one-5 : tie.Need-sub-solve-one-5
 sub-solve-one-5 c = omega arith
@@ -141,10 +153,10 @@ part-solve-one-start-5 : tie.Need-part-solve-one-start-5
 part-solve-one-start-5 c = omega arith
 
 part-solve-one-end-5 : tie.Need-part-solve-one-end-5
-part-solve-one-end-5 c = rooms (c .before .before .before .before .before .before .before .before .before .before .before .before .before .before .before .before .before) .entries
+part-solve-one-end-5 c = rooms (c .before .before .before .before .before .before .before .before .before .before .before .before .before .before .before .before .before .before) .entries
 
 mul-solve-one-4 : tie.Need-mul-solve-one-4
-mul-solve-one-4 c = omega (arith, rooms (c .before .before .before .before .before .before .before .before .before .before .before .before .before .before .before .before .before .before) .numbers)
+mul-solve-one-4 c = omega (arith, rooms (c .before .before .before .before .before .before .before .before .before .before .before .before .before .before .before .before .before .before .before) .numbers)
 
 sub-solve-one-6 : tie.Need-sub-solve-one-6
 sub-solve-one-6 c = omega arith
@@ -153,10 +165,10 @@ part-solve-one-start-6 : tie.Need-part-solve-one-start-6
 part-solve-one-start-6 c = omega arith
 
 part-solve-one-end-6 : tie.Need-part-solve-one-end-6
-part-solve-one-end-6 c = rooms (c .before .before .before .before .before .before .before .before .before .before .before .before .before .before .before .before .before .before) .counts
+part-solve-one-end-6 c = rooms (c .before .before .before .before .before .before .before .before .before .before .before .before .before .before .before .before .before .before .before) .counts
 
 mul-solve-one-5 : tie.Need-mul-solve-one-5
-mul-solve-one-5 c = omega (arith, rooms (c .before .before .before .before .before .before .before .before .before .before .before .before .before .before .before .before .before .before .before) .sums)
+mul-solve-one-5 c = omega (arith, rooms (c .before .before .before .before .before .before .before .before .before .before .before .before .before .before .before .before .before .before .before .before) .sums)
 
 sub-solve-one-7 : tie.Need-sub-solve-one-7
 sub-solve-one-7 c = omega arith
@@ -165,14 +177,20 @@ part-solve-one-start-7 : tie.Need-part-solve-one-start-7
 part-solve-one-start-7 c = omega arith
 
 part-solve-one-end-7 : tie.Need-part-solve-one-end-7
-part-solve-one-end-7 c = rooms (c .before .before .before .before .before .before .before .before .before .before .before .before .before .before .before .before .before .before .before) .totals
+part-solve-one-end-7 c = rooms (c .before .before .before .before .before .before .before .before .before .before .before .before .before .before .before .before .before .before .before .before) .totals
 
 solve-one-requires : tie.Need-solve-one-requires
 solve-one-requires c κs =
-    let w = c .before .before .before .before .before .before .before .before .before .before .before .before .before .before .before .before .before .before .before .before .before in
-    let a = start-of w .args in (
-      omega (arith, w .width .ensures, part-long (a .r * w .width .result) (w .width .result) (a .counts .now) (rooms w .counts)),
-      omega (arith, part-long (a .r * 3) 3 (a .totals .now) (rooms w .totals)),
+    let w = c .before .before .before .before .before .before .before .before .before .before .before .before .before .before .before .before .before .before .before .before .before .before in
+    let start = start-of w in
+    let a = start .args in
+    let p = c .before .before .before .before .before .before .before .before .before .before .before in
+    let k = copied-of p in (
+      row-read (a .sheet .now) _ _ (a .l) (a .table .now) (a .r) _ (start .pre .0) (table-of w .shared-slice-known2 .given) (k .before .before .bad-demand .ensures) (k .copy-bytes .ensures ∙ whole-copy (a .sheet .now) (a .copy .now) (start .pre .1 .1 .0)) (p .put-row .ensures),
+      (
+        omega (arith, w .width .ensures, part-long (a .r * w .width .result) (w .width .result) (a .counts .now) (rooms w .counts)),
+        omega (arith, part-long (a .r * 3) 3 (a .totals .now) (rooms w .totals)),
+      ),
     )
 
 same-length : tie.Need-same-length
@@ -180,52 +198,52 @@ same-length c =
     let v = c .before .before .before .before .before .before .before .before .before .before .before .before .before .before .before .before in
     let w = width-of (copied-of (put-of v)) in
     let a = start-of w .args in
-    put-long (a .r * a .l .nodes) (a .l .nodes) (a .heads .now) (v .solve-one .last .1 .1 .0) (rooms w .heads) (v .solve-one .kept .1 .1 .0)
+    put-long (a .r * a .l .nodes) (a .l .nodes) (a .heads .now) (v .solve-one .last .1 .1 .1 .1 .0) (rooms w .heads) (v .solve-one .kept .1 .1 .1 .1 .0)
 
 same-length-2 : tie.Need-same-length-2
 same-length-2 c =
     let v = c .before .before .before .before .before .before .before .before .before .before .before .before .before .before .before .before in
     let w = width-of (copied-of (put-of v)) in
     let a = start-of w .args in
-    put-long (a .r * a .l .nodes) (a .l .nodes) (a .demands .now) (v .solve-one .last .1 .1 .1 .0) (rooms w .demands) (v .solve-one .kept .1 .1 .1 .0)
+    put-long (a .r * a .l .nodes) (a .l .nodes) (a .demands .now) (v .solve-one .last .1 .1 .1 .1 .1 .0) (rooms w .demands) (v .solve-one .kept .1 .1 .1 .1 .1 .0)
 
 same-length-3 : tie.Need-same-length-3
 same-length-3 c =
     let v = c .before .before .before .before .before .before .before .before .before .before .before .before .before .before .before .before in
     let w = width-of (copied-of (put-of v)) in
     let a = start-of w .args in
-    put-long (a .r * a .l .links) (a .l .links) (a .flows .now) (v .solve-one .last .1 .1 .1 .1 .0) (rooms w .flows) (v .solve-one .kept .1 .1 .1 .1 .0)
+    put-long (a .r * a .l .links) (a .l .links) (a .flows .now) (v .solve-one .last .1 .1 .1 .1 .1 .1 .0) (rooms w .flows) (v .solve-one .kept .1 .1 .1 .1 .1 .1 .0)
 
 same-length-4 : tie.Need-same-length-4
 same-length-4 c =
     let v = c .before .before .before .before .before .before .before .before .before .before .before .before .before .before .before .before in
     let w = width-of (copied-of (put-of v)) in
     let a = start-of w .args in
-    put-long (a .r * a .l .links) (a .l .links) (a .statuses .now) (v .solve-one .last .1 .1 .1 .1 .1 .0) (rooms w .statuses) (v .solve-one .kept .1 .1 .1 .1 .1 .0)
+    put-long (a .r * a .l .links) (a .l .links) (a .statuses .now) (v .solve-one .last .1 .1 .1 .1 .1 .1 .1 .0) (rooms w .statuses) (v .solve-one .kept .1 .1 .1 .1 .1 .1 .1 .0)
 
 same-length-5 : tie.Need-same-length-5
 same-length-5 c =
     let v = c .before .before .before .before .before .before .before .before .before .before .before .before .before .before .before .before in
     let w = width-of (copied-of (put-of v)) in
     let a = start-of w .args in
-    put-long (a .r * (4 * a .trials)) (4 * a .trials) (a .entries .now) (v .solve-one .last .1 .1 .1 .1 .1 .1 .0) (rooms w .entries) (v .solve-one .kept .1 .1 .1 .1 .1 .1 .0)
+    put-long (a .r * (4 * a .trials)) (4 * a .trials) (a .entries .now) (v .solve-one .last .1 .1 .1 .1 .1 .1 .1 .1 .0) (rooms w .entries) (v .solve-one .kept .1 .1 .1 .1 .1 .1 .1 .1 .0)
 
 same-length-6 : tie.Need-same-length-6
 same-length-6 c =
     let v = c .before .before .before .before .before .before .before .before .before .before .before .before .before .before .before .before in
     let w = width-of (copied-of (put-of v)) in
     let a = start-of w .args in
-    put-long (a .r * w .width .result) (w .width .result) (a .counts .now) (v .solve-one .last .1 .1 .1 .1 .1 .1 .1 .0) (rooms w .counts) (v .solve-one .kept .1 .1 .1 .1 .1 .1 .1 .0)
+    put-long (a .r * w .width .result) (w .width .result) (a .counts .now) (v .solve-one .last .1 .1 .1 .1 .1 .1 .1 .1 .1 .0) (rooms w .counts) (v .solve-one .kept .1 .1 .1 .1 .1 .1 .1 .1 .1 .0)
 
 same-length-7 : tie.Need-same-length-7
 same-length-7 c =
     let v = c .before .before .before .before .before .before .before .before .before .before .before .before .before .before .before .before in
     let w = width-of (copied-of (put-of v)) in
     let a = start-of w .args in
-    put-long (a .r * 3) 3 (a .totals .now) (v .solve-one .last .1 .1 .1 .1 .1 .1 .1 .1 .0) (rooms w .totals) (v .solve-one .kept .1 .1 .1 .1 .1 .1 .1 .1 .0)
+    put-long (a .r * 3) 3 (a .totals .now) (v .solve-one .last .1 .1 .1 .1 .1 .1 .1 .1 .1 .1 .0) (rooms w .totals) (v .solve-one .kept .1 .1 .1 .1 .1 .1 .1 .1 .1 .1 .0)
 
 same-length-8 : tie.Need-same-length-8
-same-length-8 c = c .before .before .before .before .before .before .before .before .before .before .before .before .before .before .before .before .solve-one .kept .1 .1 .1 .1 .1 .1 .1 .1 .1 .0
+same-length-8 c = c .before .before .before .before .before .before .before .before .before .before .before .before .before .before .before .before .solve-one .kept .1 .1 .1 .1 .1 .1 .1 .1 .1 .1 .1 .0
 
 same-length-9 : tie.Need-same-length-9
 same-length-9 c = let p = put-of (c .before .before .before .before .before .before .before .before .before .before .before .before .before .before .before .before) in p .put-row .kept .0 ∙ copied-of p .copy-bytes .kept .0
@@ -258,6 +276,7 @@ solve-row-spec =
     add-c2
     mul-t
     add-t2
+    bad-demand-requires
     copy-bytes-requires
     put-row-requires
     mul-solve-one

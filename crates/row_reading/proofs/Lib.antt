@@ -1,0 +1,5 @@
+pub mod Bytes
+pub mod Same
+pub mod Layouts
+pub mod Nodes
+pub mod Theorem

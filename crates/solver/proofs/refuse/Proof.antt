@@ -1,0 +1,11 @@
+-- `solver::refuse` meets its contract. Assumes nothing.
+use borrow.Author.Needs.{needs}
+use Rattle.solver.proofs.Laws.{refused-as}
+use Rattle.solver.proofs.refuse.Statement.{statement}
+use Rattle.solver.proofs.refuse.Tie as tie
+
+returns : tie.Need-returns
+returns c = let p = c .before in refused-as _ _ _ _ (p .before .refusal-number .ensures) (p .refusal-place .ensures) (c .refused .ensures)
+
+pub refuse-spec : {M : Type 1} → statement M
+refuse-spec = tie.close (tie.spec (λ c κs. search needs) (λ c κs. search needs) (λ c κs. search needs) returns)
