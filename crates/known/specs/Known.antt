@@ -11,10 +11,13 @@ use Rattle.section_names.specs.Sections.{isHeader, sectionOf}
 use Rattle.section_names.specs.declared.Section.{Section}
 use Rattle.section_names.specs.declared.Section.the-variants.{Before, Junctions, Reservoirs, Tanks, Pipes, Valves, Status, Options, Passed, Other}
 use Rattle.node_lines.specs.Nodes.{junctionFault, reservoirFault, tankFault}
-use Rattle.link_lines.specs.Links.{pipeFault, valveFault, statusFault, pipeStatusOf, valveKindOf, saidOf}
+use Rattle.pipe_lines.specs.Pipes.{pipeFault, pipeStatusOf}
+use Rattle.valve_lines.specs.Valves.{valveFault, valveKindOf}
+use Rattle.status_lines.specs.Status.{statusFault, saidOf}
 use Rattle.option_lines.specs.Keys.{optionFault}
-use Rattle.option_lines.specs.Settings.{withOption, defaultSettings}
-use Rattle.option_lines.specs.declared.settings.Settings.{Settings}
+use Rattle.text_settings.specs.Settings.{defaultSettings}
+use Rattle.option_settings.specs.After.{withOption}
+use Rattle.text_settings.specs.declared.Settings.{Settings}
 use Rattle.named_lines.specs.Named.{Named, nameless, positionOf, settledBy}
 
 -- the section that the next line stands in, the options, and the lines that define nodes and links, in the order of the text;

@@ -1,6 +1,6 @@
 // What the lines of an EPANET text make known; how far the reading of one is.
-use option_lines::Settings;
 use section_names::Section;
+use text_settings::Settings;
 
 // The section of the next line, the options so far, and how many rows the tables of nodes and links have.
 pub struct Progress {

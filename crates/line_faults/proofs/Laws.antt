@@ -8,7 +8,7 @@ use lib.ListN.{length, getD}
 use borrow.Author.Tests.{eq-eqb, ne-eqb, lt-ltb, le-ltb}
 use Rattle.line_fields.specs.Fields.{wordIn, hasWord}
 use Rattle.section_names.specs.Sections.{isHeader}
-use Rattle.link_lines.specs.Links.{saidOf, statusFault}
+use Rattle.status_lines.specs.Status.{saidOf, statusFault}
 use Rattle.named_lines.specs.Named.{Named, nameless, positionOf, rowOf, rowsOf}
 use Rattle.named_lines.proofs.Laws.{rows-long, row-at}
 use Rattle.known.specs.Known.{isKnown, nameFault, endsFault, settable, settingFault, dataFault, lineFault}

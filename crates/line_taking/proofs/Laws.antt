@@ -18,13 +18,14 @@ use Rattle.line_words.specs.Words.{wordsOf}
 use Rattle.line_fields.specs.Fields.{wordIn, hasWord}
 use Rattle.word_places.specs.Places.{Words}
 use Rattle.word_places.proofs.Filling.{in-order, inside, reads}
-use Rattle.link_lines.specs.Links.{statusFault, valveKindOf}
+use Rattle.valve_lines.specs.Valves.{valveKindOf}
+use Rattle.status_lines.specs.Status.{statusFault}
 use Rattle.section_names.specs.Sections.{isHeader, sectionOf}
 use Rattle.section_names.specs.declared.Section.{Section}
 use Rattle.section_names.specs.declared.Section.the-variants.{Before, Junctions, Reservoirs, Tanks, Pipes, Valves, Status, Options, Passed, Other}
 use Rattle.section_names.proofs.Section as section
-use Rattle.option_lines.specs.declared.settings.Settings.{Settings}
-use Rattle.option_lines.specs.Settings.{withOption}
+use Rattle.text_settings.specs.declared.Settings.{Settings}
+use Rattle.option_settings.specs.After.{withOption}
 use Rattle.named_lines.specs.Named.{Named, nameless, positionOf, settledBy, wordsFrom, rowsOf, Kept, rowPut}
 use Rattle.named_lines.proofs.Laws.{rows-long, put-long, put-rows, put-kept, settled-rows, settled-kept}
 use Rattle.known.specs.Known.{Known, isKnown, nameFault, settable, settingFault, dataFault, lineFault, named, withNode, withLink, dataTaken, lineTaken, pipeKindOf}

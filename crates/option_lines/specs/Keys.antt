@@ -6,12 +6,10 @@ use lib.Ieee.{Float, eq}
 use Rattle.constants.specs.Constants.{half, one}
 use Rattle.spelled.specs.Texts.{bytesOf}
 use Rattle.line_fields.specs.Fields.{wordIn, hasWord, numberAt, valueAt, keywordAt, faultOf}
-use Rattle.option_lines.specs.Values.{isUnit, isCount}
+use Rattle.first_words.specs.First.{pairIs}
+use Rattle.option_values.specs.Values.{isUnit, isCount}
 
 -- No key of one word begins a key of two, so that a line has at most one key.
-
-unfoldable pub pairIs : List (List ℕ) → List ℕ → List ℕ → Bool
-pairIs ws first second = keywordAt ws 0 first && keywordAt ws 1 second
 
 -- read and passed over with whatever stands behind it
 unfoldable pub passedKey : List (List ℕ) → Bool

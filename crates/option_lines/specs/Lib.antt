@@ -1,3 +1,1 @@
-pub mod Values
 pub mod Keys
-pub mod Settings

@@ -12,8 +12,8 @@ use Rattle.lines.proofs.Lines.{First, line-first}
 use Rattle.line_words.specs.Words.{wordsOf}
 use Rattle.named_lines.specs.Named.{rowsOf, Kept}
 use Rattle.section_names.specs.declared.Section.the-variants.{Before}
-use Rattle.option_lines.specs.declared.settings.Settings.{Settings}
-use Rattle.option_lines.specs.Settings.{defaultSettings}
+use Rattle.text_settings.specs.declared.Settings.{Settings}
+use Rattle.text_settings.specs.Settings.{defaultSettings}
 use Rattle.known.specs.Known.{Known, nothingKnown, lineFault, lineTaken, linesTaken, surveyOf}
 use Rattle.known.specs.Tables.{knownOf, Tabled}
 use Rattle.known.specs.declared.Progress.{Progress}

@@ -7,8 +7,8 @@ use known::Progress;
 use line_faults::line_fault;
 use line_taking::take_line;
 use lines::line_at;
-use option_lines::default_settings;
 use section_names::Section;
+use text_settings::default_settings;
 use word_places::word_places;
 
 // The number and the line of the first refusal, or 0 and 0; and how far the reading came.

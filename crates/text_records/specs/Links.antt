@@ -5,7 +5,8 @@ use mathlib.Core.List.{List}
 use lib.Dec.{eqb, leb}
 use lib.Ieee.{Float}
 use Rattle.line_fields.specs.Fields.{hasWord, valueAt}
-use Rattle.link_lines.specs.Links.{pipeStatusOf, pipeLossOf, saidOf}
+use Rattle.pipe_lines.specs.Pipes.{pipeStatusOf, pipeLossOf}
+use Rattle.status_lines.specs.Status.{saidOf}
 use Rattle.codes.specs.Codes.{linkKindOf}
 use Rattle.codes.specs.declared.LinkKind.the-variants.{Pipe}
 use Rattle.codes.specs.declared.Status.{Status}

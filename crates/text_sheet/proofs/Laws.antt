@@ -18,7 +18,7 @@ use Rattle.lines.proofs.Lines.{line-first}
 use Rattle.line_words.specs.Words.{wordsOf}
 use Rattle.named_lines.specs.Named.{Named, nameOf, positionOf, wordsFrom, rowOf, rowsOf, Row}
 use Rattle.named_lines.proofs.Laws.{rows-long, rows-more}
-use Rattle.option_lines.specs.declared.settings.Settings.{Settings}
+use Rattle.text_settings.specs.declared.Settings.{Settings}
 use Rattle.records.specs.declared.records.Node.{Node}
 use Rattle.records.specs.declared.records.Link.{Link}
 use Rattle.sheet_bytes.specs.Bytes.{optionsBytes, pressuresBytes, nodeBytes, linkBytes}

@@ -9,7 +9,7 @@ use lib.ListN.{length, length-append}
 use borrow.Author.Tests.{le-leb, lt-leb, leb-true, leb-false}
 use Rattle.named_lines.specs.Named.{Named, rowsOf}
 use Rattle.named_lines.proofs.Laws.{rows-long}
-use Rattle.option_lines.specs.declared.settings.Settings.{Settings}
+use Rattle.text_settings.specs.declared.Settings.{Settings}
 use Rattle.known.specs.Known.{Known}
 use Rattle.known.specs.Tables.{knownOf}
 use Rattle.known.specs.declared.Progress.{Progress}

@@ -11,7 +11,7 @@ use Rattle.records.specs.declared.records.Node.{Node}
 use Rattle.records.specs.declared.records.Link.{Link}
 use Rattle.sheet_bytes.specs.Bytes.{optionsBytes, pressuresBytes, nodeBytes, linkBytes}
 use Rattle.line_fields.specs.Fields.{wordIn}
-use Rattle.option_lines.specs.declared.settings.Settings.{Settings}
+use Rattle.text_settings.specs.declared.Settings.{Settings}
 use Rattle.named_lines.specs.Named.{Named, nameOf, positionOf}
 use Rattle.known.specs.Known.{Known}
 use Rattle.text_units.specs.Units.{unitsOf, pressureFeet}

@@ -12,7 +12,6 @@ ghost use Rattle.text_sheet.specs.Sheet.{headBytes, nodeWith, nodesBytes
 use known::Progress;
 use lines::line_at;
 use named_lines::position;
-use option_lines::Settings;
 use power::power_table;
 use power::power_table_871;
 use records::Options;
@@ -23,6 +22,7 @@ use sheet_bytes::put_options;
 use sheet_bytes::put_pressures;
 use text_records::link_record;
 use text_records::node_record;
+use text_settings::Settings;
 use text_units::Units;
 use text_units::pressure_feet;
 use text_units::units_of;

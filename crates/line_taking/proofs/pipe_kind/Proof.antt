@@ -4,7 +4,7 @@ use mathlib.Core.Path.{_≡_, sym}
 use mathlib.Core.List.{List}
 use borrow.Author.Needs.{needs}
 use borrow.Author.Tests.{eq-eqb, ne-eqb}
-use Rattle.link_lines.specs.Links.{pipeStatusOf}
+use Rattle.pipe_lines.specs.Pipes.{pipeStatusOf}
 use Rattle.known.specs.Known.{pipeKindOf}
 use Rattle.line_taking.proofs.pipe_kind.Statement.{statement}
 use Rattle.line_taking.proofs.pipe_kind.Tie as tie
