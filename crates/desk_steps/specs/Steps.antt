@@ -3,7 +3,8 @@ use Prim.Native.Nat.{ℕ}
 use mathlib.Core.List.{List}
 use Rattle.answers.specs.Answers.{Lent}
 use Rattle.held.specs.Held as holding
-use Rattle.stepping.specs.Taking.{Started, Took}
+use Rattle.held_start.specs.Start.{Started}
+use Rattle.stepping.specs.Taking.{Took}
 
 -- of a start: what is told, and what is held after it
 pub record Begun : Type 0 where

@@ -2,7 +2,8 @@
 ghost use mathlib.Core.Path.{_≡_};
 ghost use Rattle.answers.specs.Answers.{lent};
 ghost use Rattle.held.specs.Held.{held};
-ghost use Rattle.stepping.specs.Taking.{startHeld, takeOf};
+ghost use Rattle.held_start.specs.Start.{startHeld};
+ghost use Rattle.stepping.specs.Taking.{takeOf};
 ghost use Rattle.desk_steps.specs.Steps.{begunOf, passedOf};
 
 // Starts a solve that is taken one trial at a time: the state, and what is told as six counts (how,
@@ -22,7 +23,7 @@ pub extern "C" fn desk_start(
 )
     ensures { λ _. ⌜ record { told = now (told .exit); held = held (now (h .exit)) (now (d .exit)) (now (f .exit)) (now (q .exit)) (now (c .exit)) (now (z .exit)) (now (sums .exit)) (now (counts .exit)) } ≡ begunOf (startHeld (now (sheet .entry)) (held (now (h .entry)) (now (d .entry)) (now (f .entry)) (now (q .entry)) (now (c .entry)) (now (z .entry)) (now (sums .entry)) (now (counts .entry)))) ⌝ }
 {
-    let t = stepping::start(sheet, h, d, f, q, c, z, sums, counts);
+    let t = held_start::start(sheet, h, d, f, q, c, z, sums, counts);
     *told = held::counts_of(t);
 }
 

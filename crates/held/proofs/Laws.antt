@@ -1,29 +1,8 @@
--- A column made from another entry by entry, over plain variables; and what is held comes back as it was. Assumes nothing.
-use Prim.Native.Nat.{ℕ, _+_, _≤_, _<_}
-use mathlib.Core.Path.{_≡_, refl, sym, ap, _∙_}
+-- What is held comes back as it was. Assumes nothing.
+use mathlib.Core.Path.{_≡_, refl, ap}
 use mathlib.Core.Bool.{Bool, true, false}
-use mathlib.Core.List.{List, [], _∷_, _++_, map, append-nil}
-use native.Mathlib.Omega.{arith}
-use lib.ListN.{length, getD, set, drop, length-map, List·getD-map, drop-of-length-le}
-use lib.Seq.{take-all}
-use Rattle.columns.specs.Columns.{copied}
-use Rattle.columns.proofs.Laws.{copy-next}
-use Rattle.held.specs.Held.{isMark, markByte, marksIn, marksOut}
-
-module _ {A B : Type 0} (f : A → B) (z : List A) (r₀ : List B) where
-  pub made-none : r₀ ≡ copied 0 (map f z) r₀
-  unfolding copied
-  made-none = refl
-
-  pub made-next : (d : A) (i : ℕ) (r : List B) → i < length z → i < length r₀ → r ≡ copied i (map f z) r₀ → set r i (f (getD z i d)) ≡ copied (i + 1) (map f z) r₀
-  made-next d i r h k e =
-      ap (set r i) (sym (List·getD-map f z i d)) ∙ copy-next i (f d) (map f z) r₀ r (omega (arith, length-map z f)) k e
-
-  pub made-all : (i : ℕ) (r : List B) → length z ≤ i → length r₀ ≤ i → r ≡ copied i (map f z) r₀ → r ≡ map f z
-  unfolding copied
-  made-all i r h k e =
-      let short : length (map f z) ≤ i = omega (arith, length-map z f) in
-      e ∙ rw (take-all i (map f z) short, drop-of-length-le, append-nil)
+use mathlib.Core.List.{List, [], _∷_}
+use Rattle.held.specs.Held.{marksIn, marksOut}
 
 -- what is told is told again
 pub marks-back : (z : List Bool) → marksIn (marksOut z) ≡ z

@@ -1,8 +1,8 @@
-// What a caller holds between two trials, as plain columns and numbers, there and back.
+// What a call tells, and how it is held between two trials. held_marks and held_numbers read what is held.
 ghost use mathlib.Core.Path.{_≡_};
-ghost use lib.ListN.{length};
-ghost use Rattle.held.specs.Held.{marksIn, marksOut, dampingIn, tallyIn, answerIn, sumsOf, countsOf};
+ghost use Rattle.held.specs.Held.{sumsOf, countsOf, more, refusal};
 use answers::Answer;
+use answers::failed;
 use damping::Damping;
 use entries::Tally;
 
@@ -13,64 +13,28 @@ pub struct Taken {
     pub answer: Answer,
 }
 
-// Which nodes are grounded: those whose byte is not 0.
-pub fn marks_in(z: &[u8]) -> [bool; 64]
-    requires { ⌜ length (now z) ≡ 64 ⌝ }
-    ensures { λ r. ⌜ r ≡ marksIn (now (z .entry)) ⌝ }
+// A trial was taken or is to be taken, and more follow.
+pub fn more(tally: Tally) -> Taken
+    ensures { λ r. ⌜ r ≡ more tally ⌝ }
 {
-    let mut r = [false; 64];
-    for i in 0..64 {
-        r[i] = z[i] != 0;
-    }
-    r
-}
-
-// 1 for each node that is grounded, 0 for the others.
-pub fn marks_out(z: &[bool]) -> [u8; 64]
-    requires { ⌜ length (now z) ≡ 64 ⌝ }
-    ensures { λ r. ⌜ r ≡ marksOut (now (z .entry)) ⌝ }
-{
-    let mut r = [0u8; 64];
-    for i in 0..64 {
-        r[i] = z[i] as u8;
-    }
-    r
-}
-
-pub fn damping_in(sums: [f64; 5]) -> Damping
-    ensures { λ r. ⌜ r ≡ dampingIn sums ⌝ }
-{
-    Damping {
-        factor: sums[0],
-        previous: sums[1],
+    Taken {
+        how: 0,
+        answer: failed(0, 0, tally),
     }
 }
 
-pub fn tally_in(counts: [u64; 6]) -> Tally
-    ensures { λ r. ⌜ r ≡ tallyIn counts ⌝ }
+// Refused, and nothing changed.
+pub fn refused(number: usize, place: usize) -> Taken
+    ensures { λ r. ⌜ r ≡ refusal number place ⌝ }
 {
-    let trials = counts[3] as usize;
-    let freed = counts[4] as usize;
-    let grounded = counts[5] as usize;
-    Tally {
-        trials: trials,
-        freed: freed,
-        grounded: grounded,
-    }
-}
-
-pub fn answer_in(sums: [f64; 5], counts: [u64; 6]) -> Answer
-    ensures { λ r. ⌜ r ≡ answerIn sums counts ⌝ }
-{
-    Answer {
-        number: counts[1] as usize,
-        place: counts[2] as usize,
-        trials: counts[3] as usize,
-        freed: counts[4] as usize,
-        grounded: counts[5] as usize,
-        demand: sums[2],
-        supply: sums[3],
-        error: sums[4],
+    let none = Tally {
+        trials: 0,
+        freed: 0,
+        grounded: 0,
+    };
+    Taken {
+        how: 2,
+        answer: failed(number, place, none),
     }
 }
 

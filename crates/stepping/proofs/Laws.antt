@@ -1,10 +1,10 @@
--- The ways through the start and through one trial, over plain variables. Assumes nothing.
+-- The ways through one trial, over plain variables. Assumes nothing.
 use Prim.Native.Nat.{ℕ}
-use mathlib.Core.Path.{_≡_, refl}
+use mathlib.Core.Path.{_≡_}
 use mathlib.Core.List.{List, _++_}
-use mathlib.Core.Bool.{Bool, false}
+use mathlib.Core.Bool.{Bool}
 use borrow.Author.Tests.{eq-eqb, ne-eqb}
-use lib.ListN.{length, getD, drop, replicate}
+use lib.ListN.{length, getD, drop}
 use lib.Ieee.{Float}
 use Rattle.refusals.specs.Refusals.{numberOf, placeOf}
 use Rattle.refusals.specs.declared.refusals.Refusal.{Refusal}
@@ -18,7 +18,6 @@ use Rattle.damping.specs.declared.steps.Damping.{Damping}
 use Rattle.columns.specs.Columns.{zeros}
 use Rattle.state.specs.State.{state}
 use Rattle.trial.specs.Trial.{Repair}
-use Rattle.entries.specs.Entries.{dampingStart, none}
 use Rattle.entries.specs.declared.Ended.{Ended}
 use Rattle.entries.specs.declared.Going.{Going}
 use Rattle.entries.specs.declared.Going.the-variants.{On, Over}
@@ -27,26 +26,12 @@ use Rattle.runs.specs.Run.{Turned}
 use Rattle.answers.specs.Answers.{Lent, lent, Solved, tooShort}
 use Rattle.answers.specs.declared.Answer.{Answer}
 use Rattle.conclusion.specs.Conclusion.{emptied, told}
-use Rattle.solver.specs.Solve.{trialsOf, startOf}
+use Rattle.solver.specs.Solve.{trialsOf}
 use Rattle.solver.proofs.Laws.{emptied-part}
 use Rattle.held.specs.Held.{Held, held, marksIn, marksOut, stateIn, dampingIn, tallyIn, answerIn, sumsOf, countsOf, heldOf, more, answered, refusal}
 use Rattle.held.specs.declared.Taken.{Taken}
 use Rattle.turns.specs.Turns.{follows, nextTurn}
-use Rattle.stepping.specs.Taking.{startRead, startHeld, Took, afterTurn, takeTurn, takeLent, takeRead, over, takeWith}
-
--- ---- the start
-
-module _ (s : List ℕ) (was : Held) (reading : Reading) (read : reading ≡ readOf s) where
-  pub start-refused : (t : Taken) (r : Refusal) (number place : ℕ) → reading ≡ Refused r → number ≡ numberOf r → place ≡ placeOf r → t ≡ refusal number place
-      → record { taken = t; held = was } ≡ startHeld s was
-  unfolding startHeld startRead
-  start-refused t r number place e en ep et = rw (← read, e, et, en, ep)
-
-  pub start-good : (l : Layout) (h d f q : List Float) (c : List ℕ) (first : Damping) (m t : Taken) (sums : List Float) (counts : List ℕ)
-      → reading ≡ Good l → state h d f q c (replicate 64 false) ≡ startOf s l → first ≡ dampingStart → m ≡ more none → sums ≡ sumsOf first (m .answer) → counts ≡ countsOf m → t ≡ m
-      → record { taken = t; held = held h d f q c (replicate 64 0) sums counts } ≡ startHeld s was
-  unfolding startHeld startRead heldOf marksOut
-  start-good l h d f q c first m t sums counts e es ed em ex en et = rw (← read, e, ← es, ex, en, et, em, ed)
+use Rattle.stepping.specs.Taking.{Took, afterTurn, takeTurn, takeLent, takeRead, over, takeWith}
 
 -- ---- one trial: the turn and its end
 

@@ -1,4 +1,4 @@
--- A solve one trial at a time: the start, and one call that takes a trial. Definitions only.
+-- One call that takes a trial of a solve whose state the caller holds. Definitions only.
 use Prim.Native.Nat.{ℕ}
 use mathlib.Core.List.{List}
 use mathlib.Core.Bool.{Bool, cond, not}
@@ -13,33 +13,15 @@ use Rattle.sheet.specs.declared.reading.Reading.the-variants.{Good, Refused}
 use Rattle.layout.specs.declared.places.Layout.{Layout}
 use Rattle.damping.specs.declared.steps.Damping.{Damping}
 use Rattle.trial.specs.Trial.{Repair, repairOf}
-use Rattle.entries.specs.Entries.{dampingStart, none}
 use Rattle.entries.specs.declared.Going.{Going}
 use Rattle.entries.specs.declared.Going.the-variants.{On, Over}
 use Rattle.runs.specs.Run.{Turned}
 use Rattle.answers.specs.Answers.{Lent, lent, tooShort}
 use Rattle.conclusion.specs.Conclusion.{emptied, told}
 use Rattle.turns.specs.Turns.{follows, nextTurn}
-use Rattle.solver.specs.Solve.{trialsOf, startOf}
+use Rattle.solver.specs.Solve.{trialsOf}
 use Rattle.held.specs.Held.{Held, stateIn, dampingIn, tallyIn, answerIn, heldOf, more, answered, refusal}
 use Rattle.held.specs.declared.Taken.{Taken}
-
--- ---- the start
-
--- what is told, and what is held after it
-pub record Started : Type 0 where
-  pub taken : Taken
-  pub held : Held
-
-unfoldable pub startRead : List ℕ → Held → Reading → Started
-startRead s h (Refused r) = record { taken = refusal (numberOf r) (placeOf r); held = h }
-startRead s h (Good l) = record { taken = more none; held = heldOf (startOf s l) dampingStart (more none) }
-
-unfoldable pub startHeld : List ℕ → Held → Started
-unfolding startRead
-startHeld s h = startRead s h (readOf s)
-
--- ---- one trial
 
 -- what is told, what is held and what was lent after it
 pub record Took : Type 0 where

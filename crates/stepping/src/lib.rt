@@ -1,74 +1,19 @@
-// A solve one trial at a time, its state held by the caller.
+// One trial of a solve whose state the caller holds.
 ghost use mathlib.Core.Path.{_≡_};
 ghost use Rattle.sheet.specs.Read.{readOf};
 ghost use Rattle.trial.specs.Trial.{repairOf};
 ghost use Rattle.answers.specs.Answers.{lent, Enough};
 ghost use Rattle.solver.specs.Solve.{trialsOf};
-ghost use Rattle.held.specs.Held.{held, more, refusal};
-ghost use Rattle.stepping.specs.Taking.{startHeld, takeTurn, takeOf};
-use answers::failed;
+ghost use Rattle.held.specs.Held.{held};
+ghost use Rattle.stepping.specs.Taking.{takeTurn, takeOf};
 use entries::Going;
-use entries::Tally;
 use found::Found;
 use held::Taken;
 use held::keep;
+use held::more;
+use held::refused;
 use layout::Layout;
 use sheet::Reading;
-
-// Refused, and nothing changed.
-fn refused(number: usize, place: usize) -> Taken
-    ensures { λ r. ⌜ r ≡ refusal number place ⌝ }
-{
-    let none = Tally {
-        trials: 0,
-        freed: 0,
-        grounded: 0,
-    };
-    Taken {
-        how: 2,
-        answer: failed(number, place, none),
-    }
-}
-
-// A trial was taken or is to be taken, and more follow.
-fn more(tally: Tally) -> Taken
-    ensures { λ r. ⌜ r ≡ more tally ⌝ }
-{
-    Taken {
-        how: 0,
-        answer: failed(0, 0, tally),
-    }
-}
-
-// Starts the solve of any sheet: its state, and that trials are to be taken; or a refusal, 1 to 4,
-// and nothing changes.
-pub fn start(
-    sheet: &[u8],
-    h: &mut [f64; 64],
-    d: &mut [f64; 64],
-    f: &mut [f64; 64],
-    q: &mut [f64; 128],
-    c: &mut [u8; 128],
-    z: &mut [u8; 64],
-    sums: &mut [f64; 5],
-    counts: &mut [u64; 6],
-) -> Taken
-    ensures { λ r. ⌜ record { taken = r; held = held (now (h .exit)) (now (d .exit)) (now (f .exit)) (now (q .exit)) (now (c .exit)) (now (z .exit)) (now (sums .exit)) (now (counts .exit)) } ≡ startHeld (now (sheet .entry)) (held (now (h .entry)) (now (d .entry)) (now (f .entry)) (now (q .entry)) (now (c .entry)) (now (z .entry)) (now (sums .entry)) (now (counts .entry))) ⌝ }
-{
-    match sheet::read(sheet) {
-        Reading::Refused(r) => refused(refusals::refusal_number(r), refusals::refusal_place(r)),
-        Reading::Good(l) => {
-            starts::start_columns(sheet, l, h, d, f, q, c);
-            *z = [0u8; 64];
-            let none = Tally {
-                trials: 0,
-                freed: 0,
-                grounded: 0,
-            };
-            keep(entries::damping_start(), more(none), sums, counts)
-        }
-    }
-}
 
 // The next trial, and the answer where it was the last.
 fn take_one(
@@ -95,9 +40,9 @@ fn take_one(
     requires { ⌜ Enough l trials (lent (now heads) (now demands) (now flows) (now statuses) (now entries) (now scratch)) ⌝ }
     ensures { λ r. ⌜ record { taken = r; held = held (now (h .exit)) (now (d .exit)) (now (f .exit)) (now (q .exit)) (now (c .exit)) (now (z .exit)) (now (sums .exit)) (now (counts .exit)); lent = lent (now (heads .exit)) (now (demands .exit)) (now (flows .exit)) (now (statuses .exit)) (now (entries .exit)) (now (scratch .exit)) } ≡ takeTurn repairOf (now (sheet .entry)) l (held (now (h .entry)) (now (d .entry)) (now (f .entry)) (now (q .entry)) (now (c .entry)) (now (z .entry)) (now (sums .entry)) (now (counts .entry))) (lent (now (heads .entry)) (now (demands .entry)) (now (flows .entry)) (now (statuses .entry)) (now (entries .entry)) (now (scratch .entry))) ⌝ }
 {
-    let damping = held::damping_in(*sums);
-    let tally = held::tally_in(*counts);
-    let mut marks = held::marks_in(z);
+    let damping = held_numbers::damping_in(*sums);
+    let tally = held_numbers::tally_in(*counts);
+    let mut marks = held_marks::marks_in(z);
     let turn = turns::next_turn(
         sheet,
         l,
@@ -113,7 +58,7 @@ fn take_one(
         entries,
         &mut scratch[..4096],
     );
-    *z = held::marks_out(&marks);
+    *z = held_marks::marks_out(&marks);
     let after = turn.tally;
     match turns::follows(trials, turn) {
         Going::On(next) => keep(next, more(after), sums, counts),
@@ -164,7 +109,7 @@ pub fn take(
     if n[0] != 0 {
         return Taken {
             how: 1,
-            answer: held::answer_in(*sums, n),
+            answer: held_numbers::answer_in(*sums, n),
         };
     }
     match sheet::read(sheet) {

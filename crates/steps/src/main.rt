@@ -268,7 +268,7 @@ fn show(sheet: &[u8]) -> bool {
     let mut statuses = [0u8; 128];
     let mut entries = [0u8; 800];
     let mut scratch = [0.0f64; 4096];
-    let first = stepping::start(
+    let first = held_start::start(
         sheet,
         &mut h,
         &mut d,

@@ -41,7 +41,8 @@ use Rattle.solver.specs.Solve.{trialsOf, startOf, runOf, solvedWith, afterShort
 use Rattle.held.specs.Held.{Held, stateIn, dampingIn, tallyIn, countsOf, heldOf, more, answered}
 use Rattle.turns.specs.Turns.{due, follows, nextTurn}
 use Rattle.turns.proofs.Laws.{Due, due-is, is-due, follow-on, follow-limit, follow-over}
-use Rattle.stepping.specs.Taking.{Took, unchanged, over, startRead, startHeld, afterTurn, takeWith}
+use Rattle.held_start.specs.Start.{startRead, startHeld}
+use Rattle.stepping.specs.Taking.{Took, unchanged, over, afterTurn, takeWith}
 use Rattle.stepwise.specs.Stepwise.{Went, onward, goOn, Whole}
 use Rattle.stepwise.proofs.Calls.{damping-back, state-back, tally-back, told-tally, enough-so, turned, takes}
 

@@ -17,7 +17,8 @@ use Rattle.answers.specs.Answers.{Lent, Enough, tooShort}
 use Rattle.solver.specs.Solve.{trialsOf, solveWith}
 use Rattle.held.specs.Held.{Held, stateIn, dampingIn, tallyIn, more, answered, refusal}
 use Rattle.turns.specs.Turns.{due}
-use Rattle.stepping.specs.Taking.{Took, unchanged, over, startHeld, takeWith}
+use Rattle.held_start.specs.Start.{startHeld}
+use Rattle.stepping.specs.Taking.{Took, unchanged, over, takeWith}
 
 -- ---- one call
 

@@ -1,9 +1,9 @@
--- `held::tally_in` meets its contract. Assumes nothing.
+-- `held_numbers::tally_in` meets its contract. Assumes nothing.
 use mathlib.Core.Path.{refl}
 use borrow.Author.Needs.{needs}
 use Rattle.held.specs.Held.{tallyIn}
-use Rattle.held.proofs.tally_in.Statement.{statement}
-use Rattle.held.proofs.tally_in.Tie as tie
+use Rattle.held_numbers.proofs.tally_in.Statement.{statement}
+use Rattle.held_numbers.proofs.tally_in.Tie as tie
 
 returns : tie.Need-returns
 unfolding tallyIn

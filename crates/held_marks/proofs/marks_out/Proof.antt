@@ -1,4 +1,4 @@
--- `held::marks_out` meets its contract. Assumes nothing.
+-- `held_marks::marks_out` meets its contract. Assumes nothing.
 use native.Mathlib.Omega.{arith}
 use Prim.Native.Nat.{_-_, _≤_}
 use mathlib.Core.Path.{_≡_, refl, ap, _∙_}
@@ -7,10 +7,10 @@ use mathlib.Core.List.{map}
 use lib.ListN.{length, getD, set, replicate, length-set}
 use mir.Val.{boolByte}
 use Rattle.columns.specs.Columns.{copied}
 use Rattle.held.specs.Held.{markByte, marksOut}
-use Rattle.held.proofs.Laws.{made-none, made-next, made-all}
-use Rattle.held.proofs.marks_out.Statement.{statement}
-use Rattle.held.proofs.marks_out.Tie as tie
+use Rattle.held_marks.proofs.Laws.{made-none, made-next, made-all}
+use Rattle.held_marks.proofs.marks_out.Statement.{statement}
+use Rattle.held_marks.proofs.marks_out.Tie as tie
 
 byte-of : (b : Bool) → boolByte b ≡ markByte b
 byte-of true = refl

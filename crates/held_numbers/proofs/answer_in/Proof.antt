@@ -1,9 +1,9 @@
--- `held::answer_in` meets its contract. Assumes nothing.
+-- `held_numbers::answer_in` meets its contract. Assumes nothing.
 use mathlib.Core.Path.{refl}
 use borrow.Author.Needs.{needs}
 use Rattle.held.specs.Held.{answerIn}
-use Rattle.held.proofs.answer_in.Statement.{statement}
-use Rattle.held.proofs.answer_in.Tie as tie
+use Rattle.held_numbers.proofs.answer_in.Statement.{statement}
+use Rattle.held_numbers.proofs.answer_in.Tie as tie
 
 returns : tie.Need-returns
 unfolding answerIn

@@ -1,11 +1,11 @@
--- `stepping::start` meets its contract, for any sheet and any state. Assumes nothing.
+-- `held_start::start` meets its contract, for any sheet and any state. Assumes nothing.
 use mathlib.Core.Path.{_≡_, sym, _∙_}
 use borrow.Author.Needs.{needs}
 use Rattle.held.specs.Held.{held}
 use Rattle.solver.proofs.Laws.{network-of}
-use Rattle.stepping.proofs.Laws.{start-refused, start-good}
-use Rattle.stepping.proofs.start.Statement.{statement}
-use Rattle.stepping.proofs.start.Tie as tie
+use Rattle.held_start.proofs.Laws.{start-refused, start-good}
+use Rattle.held_start.proofs.start.Statement.{statement}
+use Rattle.held_start.proofs.start.Tie as tie
 
 start-columns-requires : tie.Need-start-columns-requires
 start-columns-requires c κs =

@@ -1,9 +1,9 @@
--- `held::damping_in` meets its contract. Assumes nothing.
+-- `held_numbers::damping_in` meets its contract. Assumes nothing.
 use mathlib.Core.Path.{refl}
 use borrow.Author.Needs.{needs}
 use Rattle.held.specs.Held.{dampingIn}
-use Rattle.held.proofs.damping_in.Statement.{statement}
-use Rattle.held.proofs.damping_in.Tie as tie
+use Rattle.held_numbers.proofs.damping_in.Statement.{statement}
+use Rattle.held_numbers.proofs.damping_in.Tie as tie
 
 returns : tie.Need-returns
 unfolding dampingIn

@@ -1,8 +1,8 @@
--- `stepping::more` meets its contract. Assumes nothing.
+-- `held::more` meets its contract. Assumes nothing.
 use borrow.Author.Needs.{needs}
 use mathlib.Core.Path.{_≡_}
-use Rattle.stepping.proofs.more.Statement.{statement}
-use Rattle.stepping.proofs.more.Tie as tie
+use Rattle.held.proofs.more.Statement.{statement}
+use Rattle.held.proofs.more.Tie as tie
 
 returns : tie.Need-returns
 returns c = rw (c .failed .ensures)

@@ -1,8 +1,8 @@
--- `stepping::refused` meets its contract. Assumes nothing.
+-- `held::refused` meets its contract. Assumes nothing.
 use borrow.Author.Needs.{needs}
 use mathlib.Core.Path.{_≡_}
-use Rattle.stepping.proofs.refused.Statement.{statement}
-use Rattle.stepping.proofs.refused.Tie as tie
+use Rattle.held.proofs.refused.Statement.{statement}
+use Rattle.held.proofs.refused.Tie as tie
 
 returns : tie.Need-returns
 returns c = rw (c .failed .ensures)

@@ -1,4 +1,4 @@
--- `held::marks_in` meets its contract. Assumes nothing.
+-- `held_marks::marks_in` meets its contract. Assumes nothing.
 use native.Mathlib.Omega.{arith}
 use Prim.Native.Nat.{_-_, _≤_}
 use mathlib.Core.Path.{_≡_, refl}
@@ -6,10 +6,10 @@ use mathlib.Core.Bool.{false}
 use mathlib.Core.List.{map}
 use lib.ListN.{length, replicate, length-set}
 use Rattle.columns.specs.Columns.{copied}
 use Rattle.held.specs.Held.{isMark, marksIn}
-use Rattle.held.proofs.Laws.{made-none, made-next, made-all}
-use Rattle.held.proofs.marks_in.Statement.{statement}
-use Rattle.held.proofs.marks_in.Tie as tie
+use Rattle.held_marks.proofs.Laws.{made-none, made-next, made-all}
+use Rattle.held_marks.proofs.marks_in.Statement.{statement}
+use Rattle.held_marks.proofs.marks_in.Tie as tie
 
 abbrev Inv-loop : tie.InvT-loop
 Inv-loop z r₀ i₀ r i = (length r ≡ 64) × (i ≤ 64) × (r ≡ copied i (map isMark z) r₀)

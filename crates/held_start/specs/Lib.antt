@@ -1,0 +1,2 @@
+-- The specs of `held_start`.
+pub mod Start
