@@ -17,10 +17,14 @@ loop-holds : tie.Need-loop-holds Inv-loop μ-loop
 loop-holds c = (omega arith, no-supply _ _ _)
 
 link-start-requires : tie.Need-link-start-requires Inv-loop μ-loop
-link-start-requires c κs = (c .before .before .before .before .pre .0, c .loop-test .taken)
+link-start-requires c κs =
+    let start = c .before .before .before .before in
+    (start .pre .0, c .loop-test .taken)
 
 link-end-requires : tie.Need-link-end-requires Inv-loop μ-loop
-link-end-requires c κs = (c .before .before .before .before .before .pre .0, c .before .loop-test .taken)
+link-end-requires c κs =
+    let start = c .before .before .before .before .before in
+    (start .pre .0, c .before .loop-test .taken)
 
 is-fixed-requires : tie.Need-is-fixed-requires Inv-loop μ-loop
 is-fixed-requires c κs =

@@ -30,7 +30,8 @@ returns : tie.Need-returns
 returns c =
     let d = c .before .before in
     let r = d .before .before .before .before in
-    bend-on _ _ _ _ _ _ _ _ (r .before .before .before .before .if1 .taken) (d .add-to-diagonal .ensures) (r .add-to-row .ensures)
+    let bent = r .before .before .before .before .if1 .taken in
+    bend-on _ _ _ _ _ _ _ _ bent (d .add-to-diagonal .ensures) (r .add-to-row .ensures)
 
 returns-2 : tie.Need-returns-2
 returns-2 c = bend-off _ _ _ _ _ _ (c .if1 .left)

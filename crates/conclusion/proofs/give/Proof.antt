@@ -8,7 +8,8 @@ returns c =
     let k = c .before .before in
     let z = k .before .before .before .before in
     let y = z .before .before .before .before in
-    (y .before .before .before .before .copy-floats .ensures, (y .copy-floats2 .ensures, (z .copy-floats3 .ensures, k .copy-bytes .ensures)))
+    let x = y .before .before .before .before in
+    (x .copy-floats .ensures, (y .copy-floats2 .ensures, (z .copy-floats3 .ensures, k .copy-bytes .ensures)))
 
 pub give-spec : {M : Type 1} → statement M
 give-spec =

@@ -7,7 +7,9 @@ use Rattle.desk_steps.proofs.desk_trial.Tie as tie
 
 returns : tie.Need-returns
 unfolding passedOf
-returns c = rw (← c .before .before .before .before .before .before .before .before .before .before .before .before .before .take .ensures, c .counts-of .ensures)
+returns c =
+    let after-take = c .before .before .before .before .before .before .before .before .before .before .before .before .before in
+    rw (← after-take .take .ensures, c .counts-of .ensures)
 
 pub desk-trial-spec : {M : Type 1} → statement M
 desk-trial-spec =

@@ -16,7 +16,9 @@ loop-holds : tie.Need-loop-holds Inv-loop μ-loop
 loop-holds c = none-filled _ _ _
 
 link-end-requires : tie.Need-link-end-requires Inv-loop μ-loop
-link-end-requires c κs = (c .before .before .before .before .pre .0, c .loop-test .taken)
+link-end-requires c κs =
+    let start = c .before .before .before .before in
+    (start .pre .0, c .loop-test .taken)
 
 loop-again : tie.Need-loop-again Inv-loop μ-loop
 loop-again c =

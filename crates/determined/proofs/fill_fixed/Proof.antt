@@ -16,7 +16,9 @@ loop-holds : tie.Need-loop-holds Inv-loop μ-loop
 loop-holds c = none-filled _ _ _
 
 is-fixed-requires : tie.Need-is-fixed-requires Inv-loop μ-loop
-is-fixed-requires c κs = (c .before .before .before .before .pre .0, c .loop-test .taken)
+is-fixed-requires c κs =
+    let start = c .before .before .before .before in
+    (start .pre .0, c .loop-test .taken)
 
 loop-again : tie.Need-loop-again Inv-loop μ-loop
 loop-again c =

@@ -16,7 +16,9 @@ loop-holds : tie.Need-loop-holds Inv-loop μ-loop
 loop-holds c = none-filled _ _ _
 
 joins-at-requires : tie.Need-joins-at-requires Inv-loop μ-loop
-joins-at-requires c κs = let p = c .before .before .before .before .before .before .pre in (p .0, (p .1 .0, omega (arith, c .loop-test .taken, p .1 .1)))
+joins-at-requires c κs =
+    let start = c .before .before .before .before .before .before in
+    let p = start .pre in (p .0, (p .1 .0, omega (arith, c .loop-test .taken, p .1 .1)))
 
 loop-again : tie.Need-loop-again Inv-loop μ-loop
 loop-again c =

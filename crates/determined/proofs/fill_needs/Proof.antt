@@ -16,7 +16,9 @@ loop-holds : tie.Need-loop-holds Inv-loop μ-loop
 loop-holds c = none-filled _ _ _
 
 in-service-requires : tie.Need-in-service-requires Inv-loop μ-loop
-in-service-requires c κs = (c .before .before .before .before .pre .0, c .loop-test .taken)
+in-service-requires c κs =
+    let start = c .before .before .before .before in
+    (start .pre .0, c .loop-test .taken)
 
 loop-again : tie.Need-loop-again Inv-loop μ-loop
 loop-again c =

@@ -10,7 +10,9 @@ returns : tie.Need-returns
 returns c = ill-none _ _ _ _ _ (not-true _ (c .if1 .taken))
 
 pressures-of-requires : tie.Need-pressures-of-requires
-pressures-of-requires c κs = pressures-within _ _ (c .before .before .before .before .before .pre .0) (not-false _ (c .if1 .left))
+pressures-of-requires c κs =
+    let start = c .before .before .before .before .before in
+    pressures-within _ _ (start .pre .0) (not-false _ (c .if1 .left))
 
 returns-2 : tie.Need-returns-2
 returns-2 c =

@@ -18,10 +18,15 @@ loop-holds : tie.Need-loop-holds Inv-loop μ-loop
 loop-holds c = (omega arith, flows-none _ _ _ _, refl)
 
 link-start-requires : tie.Need-link-start-requires Inv-loop μ-loop
-link-start-requires c κs = (c .before .before .before .before .before .before .pre .0, c .before .loop-test .taken)
+link-start-requires c κs =
+    let start = c .before .before .before .before .before .before in
+    (start .pre .0, c .before .loop-test .taken)
 
 link-end-requires : tie.Need-link-end-requires Inv-loop μ-loop
-link-end-requires c κs = let t = c .before .before in (t .before .before .before .before .before .pre .0, t .loop-test .taken)
+link-end-requires c κs =
+    let t = c .before .before in
+    let start = t .before .before .before .before .before in
+    (start .pre .0, t .loop-test .taken)
 
 move-flow-requires : tie.Need-move-flow-requires Inv-loop μ-loop
 move-flow-requires c κs =

@@ -9,8 +9,9 @@ use Rattle.held_start.proofs.start.Tie as tie
 
 start-columns-requires : tie.Need-start-columns-requires
 start-columns-requires c κs =
+    let good = c .before .before .before .before .before .before .l .given .1 in
     let m = c .before .before .before .before .before .before .before in
-    let net = network-of _ _ (sym (m .before .read .ensures) ∙ c .before .before .before .before .before .before .l .given .1) in
+    let net = network-of _ _ (sym (m .before .read .ensures) ∙ good) in
     (net .laid, (net .nodes, net .links))
 
 returns : tie.Need-returns
@@ -26,9 +27,10 @@ returns-2 c =
     let w = o .before in
     let k = w .before .before in
     let m = k .before .before .before .before .before .before .before .before in
+    let good = k .before .before .before .before .before .before .before .l .given .1 in
     let a = m .before .before .before .args in
     start-good (a .sheet .now) (held (a .h .now) (a .d .now) (a .f .now) (a .q .now) (a .c .now) (a .z .now) (a .sums .now) (a .counts .now)) _ (m .before .read .ensures)
-    _ _ _ _ _ _ _ _ _ _ _ (k .before .before .before .before .before .before .before .l .given .1) (k .start-columns .ensures) (w .damping-start .ensures) (o .more .ensures) (c .keep .ensures .0) (c .keep .ensures .1 .0) (c .keep .ensures .1 .1)
+    _ _ _ _ _ _ _ _ _ _ _ good (k .start-columns .ensures) (w .damping-start .ensures) (o .more .ensures) (c .keep .ensures .0) (c .keep .ensures .1 .0) (c .keep .ensures .1 .1)
 
 pub start-spec : {M : Type 1} → statement M
 start-spec =

@@ -11,7 +11,9 @@ use Rattle.line_fields.proofs.is_keyword.Tie as tie
 
 returns : tie.Need-returns
 unfolding keywordAt
-returns c = c .spells .ensures ∙ ap (λ (w : List ℕ). spelledAs w (now (c .before .before .before .before .args .keyword))) (c .before .word .ensures)
+returns c =
+    let start = c .before .before .before .before in
+    c .spells .ensures ∙ ap (λ (w : List ℕ). spelledAs w (now (start .args .keyword))) (c .before .word .ensures)
 
 pub is-keyword-spec : {M : Type 1} → statement M
 is-keyword-spec =

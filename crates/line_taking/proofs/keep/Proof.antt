@@ -24,7 +24,8 @@ add-to c =
 returns : tie.Need-returns
 returns c =
     let put = c .before .before in
-    let start = start-of (put .before .before .before .before) in
+    let known = put .before .before .before .before in
+    let start = start-of known in
     let pre = start .pre in
     kept-more (start .args .text .now) (start .args .at) (pre .0 .0) (pre .1 .0 .0) (pre .1 .0 .1) (pre .0 .1) (start .args .kind) (pre .1 .1) (put .put-row .last .0) (put .put-row .ensures)
 

@@ -31,7 +31,8 @@ returns c =
     let put = c .before .before .before in
     let told = put .before .before in
     let start = start-of (told .before .before) in
-    node-known (start .pre .0 .1) (words-of start) (told .enum-told .given .1) (start .pre .1 .1) junctions (put .keep .last .1 .1 .1 .1 .1 .1 .0) (put .keep .ensures) (c .with-node .result) (c .with-node .ensures)
+    let rows = put .keep .last .1 .1 .1 .1 .1 .1 .0 in
+    node-known (start .pre .0 .1) (words-of start) (told .enum-told .given .1) (start .pre .1 .1) junctions rows (put .keep .ensures) (c .with-node .result) (c .with-node .ensures)
 
 -- reservoirs
 
@@ -47,7 +48,8 @@ returns-2 c =
     let put = c .before .before .before in
     let told = put .before .before in
     let start = start-of (told .before .before) in
-    node-known (start .pre .0 .1) (words-of start) (told .enum-told2 .given .1) (start .pre .1 .1) reservoirs (put .keep2 .last .1 .1 .1 .1 .1 .1 .0) (put .keep2 .ensures) (c .with-node2 .result) (c .with-node2 .ensures)
+    let rows = put .keep2 .last .1 .1 .1 .1 .1 .1 .0 in
+    node-known (start .pre .0 .1) (words-of start) (told .enum-told2 .given .1) (start .pre .1 .1) reservoirs rows (put .keep2 .ensures) (c .with-node2 .result) (c .with-node2 .ensures)
 
 -- tanks
 
@@ -63,7 +65,8 @@ returns-3 c =
     let put = c .before .before .before in
     let told = put .before .before in
     let start = start-of (told .before .before) in
-    node-known (start .pre .0 .1) (words-of start) (told .enum-told3 .given .1) (start .pre .1 .1) tanks (put .keep3 .last .1 .1 .1 .1 .1 .1 .0) (put .keep3 .ensures) (c .with-node3 .result) (c .with-node3 .ensures)
+    let rows = put .keep3 .last .1 .1 .1 .1 .1 .1 .0 in
+    node-known (start .pre .0 .1) (words-of start) (told .enum-told3 .given .1) (start .pre .1 .1) tanks rows (put .keep3 .ensures) (c .with-node3 .result) (c .with-node3 .ensures)
 
 -- pipes: the kind is what `pipe_kind` gives
 
@@ -82,7 +85,8 @@ returns-4 c =
     let put = c .before .before .before in
     let told = put .before .before .before in
     let start = start-of (told .before .before) in
-    link-known (start .pre .0 .1) (words-of start) (told .enum-told4 .given .1) (start .pre .1 .1) (pipe-told (put .before .before)) (put .keep4 .last .1 .1 .1 .1 .1 .1 .0) (put .keep4 .ensures) (c .with-link .result) (c .with-link .ensures)
+    let rows = put .keep4 .last .1 .1 .1 .1 .1 .1 .0 in
+    link-known (start .pre .0 .1) (words-of start) (told .enum-told4 .given .1) (start .pre .1 .1) (pipe-told (put .before .before)) rows (put .keep4 .ensures) (c .with-link .result) (c .with-link .ensures)
 
 -- valves: the kind is what `valve_kind` gives
 
@@ -101,7 +105,8 @@ returns-5 c =
     let put = c .before .before .before in
     let told = put .before .before .before in
     let start = start-of (told .before .before) in
-    link-known (start .pre .0 .1) (words-of start) (told .enum-told5 .given .1) (start .pre .1 .1) (kind-told (put .before .before)) (put .keep5 .last .1 .1 .1 .1 .1 .1 .0) (put .keep5 .ensures) (c .with-link2 .result) (c .with-link2 .ensures)
+    let rows = put .keep5 .last .1 .1 .1 .1 .1 .1 .0 in
+    link-known (start .pre .0 .1) (words-of start) (told .enum-told5 .given .1) (start .pre .1 .1) (kind-told (put .before .before)) rows (put .keep5 .ensures) (c .with-link2 .result) (c .with-link2 .ensures)
 
 -- a link's status
 
@@ -117,7 +122,8 @@ returns-6 c =
     let set = c .before .before in
     let told = set .before .before in
     let start = start-of (told .before .before) in
-    set-known (start .pre .0 .1) (words-of start) (told .enum-told6 .given .1) (set .set-link .last .1 .1 .1 .1 .1 .0) (set .set-link .ensures)
+    let links = set .set-link .last .1 .1 .1 .1 .1 .0 in
+    set-known (start .pre .0 .1) (words-of start) (told .enum-told6 .given .1) links (set .set-link .ensures)
 
 -- an option
 

@@ -17,7 +17,7 @@ use Rattle.line_taking.proofs.take_line.Tie as tie
 
 -- where it was called, the words of the line and what is known there
 abbrev start-of : tie.After-has-word → tie.Start
-start-of c = let known = c .before in known .before .before .before .before
+start-of c = c .before .before .before .before .before
 
 abbrev words-of : tie.Start → List (List ℕ)
 words-of start = wordsOf (now (start .args .line))
@@ -59,7 +59,9 @@ returns-3 c =
     let other = taken .before .before .before in
     let found = other .before .before .before in
     let start = start-of (found .before) in
-    let after = knownOf (now (start .args .text)) (taken .take-data .last .1 .1 .1 .1 .1 .0) (taken .take-data .last .1 .1 .1 .1 .1 .1 .0) (taken .take-data .result) in
+    let nodes = taken .take-data .last .1 .1 .1 .1 .1 .0 in
+    let links = taken .take-data .last .1 .1 .1 .1 .1 .1 .0 in
+    let after = knownOf (now (start .args .text)) nodes links (taken .take-data .result) in
     (data-line (known-of start) (words-of start) (has-words found) (sym (header (other .before)) ∙ other .if2 .left) after (taken .take-data .ensures .0), taken .take-data .ensures .1)
 
 pub take-line-spec : {M : Type 1} → statement M

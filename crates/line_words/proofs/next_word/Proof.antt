@@ -9,7 +9,9 @@ returns : tie.Need-returns
 returns c = at-comment _ _ _ (c .before .before .before .past-blanks .ensures .0) (c .if2 .taken)
 
 returns-2 : tie.Need-returns-2
-returns-2 c = at-word _ _ _ (c .before .before .before .before .past-blanks .ensures .0) _ (c .before .if2 .left) (c .word-end .ensures .0)
+returns-2 c =
+    let after-blanks = c .before .before .before .before in
+    at-word _ _ _ (after-blanks .past-blanks .ensures .0) _ (c .before .if2 .left) (c .word-end .ensures .0)
 
 returns-3 : tie.Need-returns-3
 returns-3 c = at-end _ _ _ (c .before .past-blanks .ensures .0) (omega arith)

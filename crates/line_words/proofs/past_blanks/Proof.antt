@@ -27,7 +27,9 @@ returns c =
 
 loop-again : tie.Need-loop-again Inv-loop μ-loop
 unfolding notBlank
-loop-again c = next notBlank (c .before .before .before .before .loop .inv) (omega arith) (ap not (sym (c .before .is-blank .ensures)) ∙ c .if1 .left)
+loop-again c =
+    let at-loop = c .before .before .before .before in
+    next notBlank (at-loop .loop .inv) (omega arith) (ap not (sym (c .before .is-blank .ensures)) ∙ c .if1 .left)
 
 returns-2 : tie.Need-returns-2 Inv-loop μ-loop
 returns-2 c = (ended notBlank (c .before .loop .inv) (omega arith), c .before .loop .inv .within)

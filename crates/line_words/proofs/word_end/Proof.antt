@@ -27,7 +27,9 @@ returns c =
 
 loop-again : tie.Need-loop-again Inv-loop μ-loop
 unfolding endsWord
-loop-again c = next endsWord (c .before .before .before .before .loop .inv) (omega arith) (sym (c .before .ends-word .ensures) ∙ c .if1 .left)
+loop-again c =
+    let at-loop = c .before .before .before .before in
+    next endsWord (at-loop .loop .inv) (omega arith) (sym (c .before .ends-word .ensures) ∙ c .if1 .left)
 
 returns-2 : tie.Need-returns-2 Inv-loop μ-loop
 returns-2 c = (ended endsWord (c .before .loop .inv) (omega arith), c .before .loop .inv .within)

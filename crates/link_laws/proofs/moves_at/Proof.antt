@@ -14,10 +14,15 @@ module _ (c : tie.After-link) where
   s = c .before .before .before .before .before .before
 
   below : (c .link .result .start < s .args .l .nodes) × (c .link .result .end < s .args .l .nodes)
-  below = (start-below _ _ _ _ (s .pre .1 .0) (s .pre .1 .1 .1 .1) (c .link .ensures), end-below _ _ _ _ (s .pre .1 .0) (s .pre .1 .1 .1 .1) (c .link .ensures))
+  below =
+      let here = s .pre .1 .1 .1 .1 in
+      (start-below _ _ _ _ (s .pre .1 .0) here (c .link .ensures), end-below _ _ _ _ (s .pre .1 .0) here (c .link .ensures))
 
 link-requires : tie.Need-link-requires
-link-requires c κs = let a = c .before .before .before .before .before in (a .pre .0, a .pre .1 .1 .1 .1)
+link-requires c κs =
+    let start = c .before .before .before .before .before in
+    let here = start .pre .1 .1 .1 .1 in
+    (start .pre .0, here)
 
 is-enabled-requires : tie.Need-is-enabled-requires
 is-enabled-requires c κs = (s c .pre .0, below c .0)
@@ -28,9 +33,10 @@ is-enabled-requires-2 c κs = let k = c .before in (s k .pre .0, below k .1)
 coefficients-at-requires : tie.Need-coefficients-at-requires
 coefficients-at-requires c κs =
     let k = c .before .before .before in
-    let long = s k .pre .1 .1 .0 in
-    let here = s k .pre .1 .1 .1 .1 in
-    (s k .pre .0, ((long .1 .0, (omega (arith, long .1 .1 .0, here), omega (arith, long .1 .1 .1, here))), (below k, s k .pre .1 .1 .1 .0)))
+    let start = s k in
+    let long = start .pre .1 .1 .0 in
+    let here = start .pre .1 .1 .1 .1 in
+    (start .pre .0, ((long .1 .0, (omega (arith, long .1 .1 .0, here), omega (arith, long .1 .1 .1, here))), (below k, start .pre .1 .1 .1 .0)))
 
 change-by-requires : tie.Need-change-by-requires
 change-by-requires c κs =

@@ -21,7 +21,9 @@ loop-holds : tie.Need-loop-holds Inv-loop μ-loop
 loop-holds c = (moves-start _ _ _ _ _ (omega arith), omega arith)
 
 moves-at-requires : tie.Need-moves-at-requires Inv-loop μ-loop
-moves-at-requires c κs = let p = c .before .before .before .before .before .before .before .pre in (p .0, (p .1 .0, (p .1 .1 .0, (p .1 .1 .1, c .loop-test .taken))))
+moves-at-requires c κs =
+    let start = c .before .before .before .before .before .before .before in
+    let p = start .pre in (p .0, (p .1 .0, (p .1 .1 .0, (p .1 .1 .1, c .loop-test .taken))))
 
 returns : tie.Need-returns Inv-loop μ-loop
 returns c =

@@ -33,7 +33,9 @@ is-fixed-requires-2 : tie.Need-is-fixed-requires-2
 is-fixed-requires-2 c κs = search needs
 
 mul-q : tie.Need-mul-q
-mul-q c = small (c .before .before .before .before .before .before .before .before .before .before .before .before .before .before)
+mul-q c =
+    let start = c .before .before .before .before .before .before .before .before .before .before .before .before .before .before in
+    small start
 
 shared-slice-read-q : tie.Need-shared-slice-read-q
 shared-slice-read-q c = let s = c .before .before .before .before .before .before .before .before .before .before .before .before .before .before .before in omega (arith, s .pre .0 .flows, s .pre .1 .1 .0)
@@ -51,13 +53,17 @@ shared-slice-read-head-end : tie.Need-shared-slice-read-head-end
 shared-slice-read-head-end c = search needs
 
 mul-g : tie.Need-mul-g
-mul-g c = small (c .before .before .before .before .before .before .before .before .before .before .before .before .before .before .before .before .before)
+mul-g c =
+    let start = c .before .before .before .before .before .before .before .before .before .before .before .before .before .before .before .before .before in
+    small start
 
 slice-write-g : tie.Need-slice-write-g
 slice-write-g c = let s = c .before .before .before .before .before .before .before .before .before .before .before .before .before .before .before .before .before in omega (arith, s .pre .1 .0 .g, s .pre .1 .1 .0)
 
 mul-y : tie.Need-mul-y
-mul-y c = small (c .before .before .before .before .before .before .before .before .before .before .before .before .before .before .before .before .before)
+mul-y c =
+    let start = c .before .before .before .before .before .before .before .before .before .before .before .before .before .before .before .before .before in
+    small start
 
 slice-write-y : tie.Need-slice-write-y
 slice-write-y c = let s = c .before .before .before .before .before .before .before .before .before .before .before .before .before .before .before .before .before in omega (arith, s .pre .1 .0 .y, s .pre .1 .1 .0)

@@ -81,8 +81,12 @@ returns c =
     let apart = ask .1 .1 .1 in
     let free = crossed-free (a .start) (a .end) (inColumn (a .starts .now) (a .j)) (inColumn (a .ends .now) (a .j)) (at-if1 .if1 .taken) apart (joined .apart (a .j) (ask .0)) in
     let all = crossed-mended (a .starts .now) (a .ends .now) (a .nodes) (a .links) (a .j) (a .end) (a .start) (omega (arith, long, ask .0)) (omega (arith, long, ask .0)) _ _ _ _ _ _ (both-mended (a .starts .now) (a .ends .now) (a .nodes) (a .links) (a .j) (a .end) (a .start) joined (long .0) (long .1) (ask .0) (ask .1 .1 .0) (ask .1 .0) (λ e. apart (sym e)) free _ _ _ _ _ (at-move-end .move-end .ensures .0) (at-move-end .move-end .ensures .1) _ _ (at-move-end2 .move-end2 .ensures .1)) in
-    let p-long = at-move-end2 .move-end2 .kept .1 .1 .1 .1 .1 .1 .0 ∙ at-move-end .move-end .kept .1 .1 .1 .1 .1 .1 .0 in
-    let l-long = at-move-end2 .move-end2 .kept .1 .1 .1 .1 .1 .1 .1 .0 ∙ at-move-end .move-end .kept .1 .1 .1 .1 .1 .1 .1 .0 in
+    let places-kept = at-move-end .move-end .kept .1 .1 .1 .1 .1 .1 .0 in
+    let places-kept-again = at-move-end2 .move-end2 .kept .1 .1 .1 .1 .1 .1 .0 in
+    let p-long = places-kept-again ∙ places-kept in
+    let listed-kept = at-move-end .move-end .kept .1 .1 .1 .1 .1 .1 .1 .0 in
+    let listed-kept-again = at-move-end2 .move-end2 .kept .1 .1 .1 .1 .1 .1 .1 .0 in
+    let l-long = listed-kept-again ∙ listed-kept in
     (set-twice (a .starts .now) _ (a .j) (a .end) (a .start) (at-move-end .move-end .ensures .0), (set-twice (a .ends .now) _ (a .j) (a .start) (a .end) (at-move-end2 .move-end2 .ensures .0), (places-made _ _ _ _ _ _ (a .places .now) (a .listed .now) _ _ all p-long l-long, listed-made _ _ _ _ _ _ (a .places .now) (a .listed .now) _ _ all p-long l-long)))
 
 move-end-requires-3 : tie.Need-move-end-requires-3
@@ -123,8 +127,12 @@ returns-2 c =
     let ask = start .pre .1 .1 .1 in
     let free = uncrossed-free (a .start) (a .end) (inColumn (a .starts .now) (a .j)) (inColumn (a .ends .now) (a .j)) (at-if1 .if1 .left) in
     let all = both-mended (a .starts .now) (a .ends .now) (a .nodes) (a .links) (a .j) (a .start) (a .end) joined (long .0) (long .1) (ask .0) (ask .1 .0) (ask .1 .1 .0) (ask .1 .1 .1) free _ _ _ _ _ (at-move-end3 .move-end3 .ensures .0) (at-move-end3 .move-end3 .ensures .1) _ _ (at-move-end4 .move-end4 .ensures .1) in
-    let p-long = at-move-end4 .move-end4 .kept .1 .1 .1 .1 .1 .1 .0 ∙ at-move-end3 .move-end3 .kept .1 .1 .1 .1 .1 .1 .0 in
-    let l-long = at-move-end4 .move-end4 .kept .1 .1 .1 .1 .1 .1 .1 .0 ∙ at-move-end3 .move-end3 .kept .1 .1 .1 .1 .1 .1 .1 .0 in
+    let places-kept = at-move-end3 .move-end3 .kept .1 .1 .1 .1 .1 .1 .0 in
+    let places-kept-again = at-move-end4 .move-end4 .kept .1 .1 .1 .1 .1 .1 .0 in
+    let p-long = places-kept-again ∙ places-kept in
+    let listed-kept = at-move-end3 .move-end3 .kept .1 .1 .1 .1 .1 .1 .1 .0 in
+    let listed-kept-again = at-move-end4 .move-end4 .kept .1 .1 .1 .1 .1 .1 .1 .0 in
+    let l-long = listed-kept-again ∙ listed-kept in
     (at-move-end3 .move-end3 .ensures .0, (at-move-end4 .move-end4 .ensures .0, (places-made _ _ _ _ _ _ (a .places .now) (a .listed .now) _ _ all p-long l-long, listed-made _ _ _ _ _ _ (a .places .now) (a .listed .now) _ _ all p-long l-long)))
 
 pub move-link-spec : {M : Type 1} → statement M

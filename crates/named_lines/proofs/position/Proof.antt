@@ -57,7 +57,11 @@ loop-again : tie.Need-loop-again Inv-loop μ-loop
 loop-again c = let b = c .before in let t = b .before .before .before .before in let l = t .before in let start = l .before .before .before .before in let r = start .pre .row (l .loop .i) (t .loop-test .taken) in (omega (arith, t .loop-test .taken), other _ _ _ (l .loop .i) (l .loop .inv .1) (ap (λ (x : List ℕ). sameBytes x (start .args .word .now)) (sym (r .name)) ∙ sym (b .same-bytes .ensures) ∙ c .if1 .left))
 
 returns-2 : tie.Need-returns-2 Inv-loop μ-loop
-returns-2 c = let l = c .before in let e : l .loop .i ≡ l .before .before .before .before .args .count = omega arith in sym (l .loop .inv .1) ∙ ap (λ (k : ℕ). positionOf (l .before .before .before .before .args .word .now) (rowsOf (l .before .before .before .before .args .text .now) (l .before .before .before .before .args .rows .now) k)) e
+returns-2 c =
+    let l = c .before in
+    let start = l .before .before .before .before in
+    let e : l .loop .i ≡ start .args .count = omega arith in
+    sym (l .loop .inv .1) ∙ ap (λ (k : ℕ). positionOf (start .args .word .now) (rowsOf (start .args .text .now) (start .args .rows .now) k)) e
 
 pub position-spec : {M : Type 1} → statement M
 position-spec =

@@ -18,7 +18,9 @@ loop-holds : tie.Need-loop-holds Inv-loop μ-loop
 loop-holds c = (none-found _ _ _, omega arith)
 
 unknown-of-requires : tie.Need-unknown-of-requires Inv-loop μ-loop
-unknown-of-requires c κs = omega (arith, c .before .before .before .before .before .pre .0, c .if1 .taken)
+unknown-of-requires c κs =
+    let start = c .before .before .before .before .before in
+    omega (arith, start .pre .0, c .if1 .taken)
 
 found-by-requires : tie.Need-found-by-requires Inv-loop μ-loop
 found-by-requires c κs = tt

@@ -19,7 +19,9 @@ loop-holds : tie.Need-loop-holds Inv-loop μ-loop
 loop-holds c = start _ _ _
 
 in-service-requires : tie.Need-in-service-requires Inv-loop μ-loop
-in-service-requires c κs = (c .before .before .before .before .pre .0, c .loop-test .taken)
+in-service-requires c κs =
+    let start = c .before .before .before .before in
+    (start .pre .0, c .loop-test .taken)
 
 mul-unknowns : tie.Need-mul-unknowns Inv-loop μ-loop
 mul-unknowns c = search needs

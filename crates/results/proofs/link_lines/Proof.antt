@@ -21,7 +21,9 @@ loop-holds : tie.Need-loop-holds Inv-loop μ-loop
 loop-holds c = (omega arith, refl, omega arith, no-links _ _ _ _)
 
 cast-put-number : tie.Need-cast-put-number Inv-loop μ-loop
-cast-put-number c = omega (arith, c .shared-slice-known4 .given (c .before .before .before .before .before .before .before .before .before .before .before .before .before .before .before .loop .i))
+cast-put-number c =
+    let at-loop = c .before .before .before .before .before .before .before .before .before .before .before .before .before .before .before in
+    omega (arith, c .shared-slice-known4 .given (at-loop .loop .i))
 
 loop-again : tie.Need-loop-again Inv-loop μ-loop
 unfolding linkLine
@@ -36,8 +38,9 @@ loop-again c =
 
 returns : tie.Need-returns Inv-loop μ-loop
 returns c =
+    let start = c .before .before .before .before .before in
     let l = c .before .loop in
-    let e : l .i ≡ c .before .before .before .before .before .args .count = omega arith in
+    let e : l .i ≡ start .args .count = omega arith in
     rw (← e) (l .inv .3 .bytes, l .inv .3 .next)
 
 pub link-lines-spec : {M : Type 1} → statement M

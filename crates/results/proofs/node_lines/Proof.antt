@@ -33,8 +33,9 @@ loop-again c =
 
 returns : tie.Need-returns Inv-loop μ-loop
 returns c =
+    let start = c .before .before .before .before .before in
     let l = c .before .loop in
-    let e : l .i ≡ c .before .before .before .before .before .args .count = omega arith in
+    let e : l .i ≡ start .args .count = omega arith in
     rw (← e) (l .inv .3 .bytes, l .inv .3 .next)
 
 pub node-lines-spec : {M : Type 1} → statement M

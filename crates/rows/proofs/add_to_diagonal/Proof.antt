@@ -9,13 +9,19 @@ returns : tie.Need-returns
 returns c = diagonal-none _ _ _ (c .enum-told .given .1)
 
 mul-add-to : tie.Need-mul-add-to
-mul-add-to c = omega (arith, c .before .before .before .before .before .pre .1 .below _ (c .before .before .row .given .1))
+mul-add-to c =
+    let start = c .before .before .before .before .before in
+    omega (arith, start .pre .1 .below _ (c .before .before .row .given .1))
 
 add-add-to : tie.Need-add-add-to
-add-add-to c = omega (arith, c .before .before .before .before .before .pre .1 .below _ (c .before .before .row .given .1))
+add-add-to c =
+    let start = c .before .before .before .before .before in
+    omega (arith, start .pre .1 .below _ (c .before .before .row .given .1))
 
 add-to-requires : tie.Need-add-to-requires
-add-to-requires c κs = omega (arith, c .before .before .before .before .before .pre .1 .below _ (c .before .before .row .given .1))
+add-to-requires c κs =
+    let start = c .before .before .before .before .before in
+    omega (arith, start .pre .1 .below _ (c .before .before .row .given .1))
 
 returns-2 : tie.Need-returns-2
 returns-2 c = let t = c .before .before in diagonal-some _ _ _ _ _ (t .before .before .before .row .given .1) (t .add-to .ensures)

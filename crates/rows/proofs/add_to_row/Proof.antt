@@ -15,7 +15,9 @@ returns : tie.Need-returns
 returns c = row-none _ _ _ (c .enum-told .given .1)
 
 add-to-requires : tie.Need-add-to-requires
-add-to-requires c κs = omega (arith, c .before .before .before .before .before .pre .1 .below _ (c .before .before .row .given .1))
+add-to-requires c κs =
+    let start = c .before .before .before .before .before in
+    omega (arith, start .pre .1 .below _ (c .before .before .row .given .1))
 
 same-length : tie.Need-same-length
 same-length c = search needs

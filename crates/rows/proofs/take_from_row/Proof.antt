@@ -15,7 +15,9 @@ returns : tie.Need-returns
 returns c = off-row-none _ _ _ (c .enum-told .given .1)
 
 take-from-requires : tie.Need-take-from-requires
-take-from-requires c κs = omega (arith, c .before .before .before .before .before .pre .1 .below _ (c .before .before .row .given .1))
+take-from-requires c κs =
+    let start = c .before .before .before .before .before in
+    omega (arith, start .pre .1 .below _ (c .before .before .row .given .1))
 
 same-length : tie.Need-same-length
 same-length c = search needs

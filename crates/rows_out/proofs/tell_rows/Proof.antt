@@ -42,10 +42,7 @@ abbrev μ-loop : tie.MeasureT-loop
 μ-loop sheet heads demands flows statuses entries counts totals nodes links trials rows judged wide r₀ r = rows - r
 
 abbrev start-of : tie.In-loop Inv-loop μ-loop → tie.Start Inv-loop μ-loop
-start-of c =
-    let w = c .before .before in
-    let one = w .before .before .before .before in
-    one .before .before .before .before .before .before .before .before .before
+start-of c = c .before .before .before .before .before .before .before .before .before .before .before .before .before .before .before
 
 starts-of : (c : tie.In-loop Inv-loop μ-loop) → let s = start-of c .args .s in Starts (s .nodes) (s .links) (s .trials) (c .before .before .width .result) (c .before .loop .r)
 starts-of c =

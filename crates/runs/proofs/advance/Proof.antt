@@ -30,29 +30,38 @@ put-of g = g .before .before .before
 trial-requires : tie.Need-trial-requires
 trial-requires c κs =
     let p = c .before .before .before .before .before .before .before .before .before .before .before .before .before .before .before .before .before .before .before .pre in
-    (p .0, (p .1 .0, (p .1 .1 .0, (p .1 .1 .1 .0, (p .1 .1 .1 .1 .0, p .1 .1 .1 .1 .1 .1 .1)))))
+    let room = p .1 .1 .1 .1 .0 in
+    let cleared = p .1 .1 .1 .1 .1 .1 .1 in
+    (p .0, (p .1 .0, (p .1 .1 .0, (p .1 .1 .1 .0, (room, cleared)))))
 
 -- the unknowns' columns are within the scratch, which keeps its length
 few : (t : tie.After-trial) → start-of t .args .l .unknowns ≤ 64
 few t = let a = start-of t .args in omega (arith, start-of t .pre .0 .nodes, start-of t .pre .0 .unknowns, at-most (a .sheet .now) (a .l) (a .l .nodes))
 
 mul-clear : tie.Need-mul-clear
-mul-clear c = omega (arith, few (c .before .before .before .before .before .before .before .before .before .before .before .before .before .before .before))
+mul-clear c =
+    let t = c .before .before .before .before .before .before .before .before .before .before .before .before .before .before .before in
+    omega (arith, few t)
 
 clear-requires : tie.Need-clear-requires
 clear-requires c κs =
     let t = c .before .before .before .before .before .before .before .before .before .before .before .before .before .before .before .before in
-    omega (arith, few t, t .trial .kept .1 .1 .1 .1 .1 .1 .1 .1 .1 .1 .1 .1 .1 .0, ap length (start-of t .pre .1 .1 .1 .1 .1 .1 .1), zeros-long 4096)
+    let start = start-of t in
+    let scratch-kept = t .trial .kept .1 .1 .1 .1 .1 .1 .1 .1 .1 .1 .1 .1 .1 .0 in
+    let cleared = start .pre .1 .1 .1 .1 .1 .1 .1 in
+    omega (arith, few t, scratch-kept, ap length cleared, zeros-long 4096)
 
 put-requires : tie.Need-put-requires
 put-requires c κs =
-    let p = start-of (trial-of (clear-of c)) .pre .1 .1 .1 .1 .1 in
-    omega (arith, p)
+    let start = start-of (trial-of (clear-of c)) in
+    let counts-and-bytes = start .pre .1 .1 .1 .1 .1 in
+    omega (arith, counts-and-bytes)
 
 count-requires : tie.Need-count-requires
 count-requires c κs =
-    let p = start-of (trial-of (clear-of (put-of c .before))) .pre .1 .1 .1 .1 .1 .0 in
-    omega (arith, p)
+    let start = start-of (trial-of (clear-of (put-of c .before))) in
+    let counts-low = start .pre .1 .1 .1 .1 .1 .0 in
+    omega (arith, counts-low)
 
 returns : tie.Need-returns
 returns c =

@@ -29,11 +29,14 @@ abbrev μ-loop : tie.MeasureT-loop
     trials - tally .trials
 
 -- the places of a turn
+abbrev before-clear : tie.After-clear Inv-loop μ-loop → tie.Start Inv-loop μ-loop
+before-clear k = k .before .before .before .before .before .before .before .before .before .before .before .before .before .before
+
 abbrev clear-of : tie.At-loop Inv-loop μ-loop → tie.After-clear Inv-loop μ-loop
 clear-of l = l .before .before .before .before
 
 abbrev start-of : tie.At-loop Inv-loop μ-loop → tie.Start Inv-loop μ-loop
-start-of l = clear-of l .before .before .before .before .before .before .before .before .before .before .before .before .before .before
+start-of l = before-clear (clear-of l)
 
 abbrev test-of : tie.After-advance Inv-loop μ-loop → tie.Then1 Inv-loop μ-loop
 test-of a = a .before .before .before .before .before .before .before .before .before
@@ -44,12 +47,39 @@ loop-of a = test-of a .before .before
 abbrev advance-of : tie.After-tally Inv-loop μ-loop → tie.After-advance Inv-loop μ-loop
 advance-of t = t .before .before .before .before .before .before .before .before .before .before .before .before .before .before .before .before .before
 
+-- what a turn leaves is as long as it was where the loop began
+kept-on : (a : tie.After-advance Inv-loop μ-loop) →
+    let l = loop-of a in
+    let v = start-of l .args in
+    let heads-on = a .advance .last .1 .1 .1 .1 .1 .1 .1 .1 in
+    let flows-on = heads-on .1 .1 .1 in
+    let entries-on = flows-on .1 .1 .1 in
+    Kept (state (v .heads .now) (v .demands .now) (v .drawn .now) (v .flows .now) (v .statuses .now) (v .grounded .now)) (state (heads-on .0) (heads-on .1 .0) (heads-on .1 .1 .0) (flows-on .0) (flows-on .1 .0) (flows-on .1 .1 .0)) (v .entries .now) (entries-on .0) (clear-of l .clear .last .1 .0) (entries-on .1 .0)
+kept-on a =
+    let k = loop-of a .loop .inv .0 in
+    let heads-on = a .advance .kept .1 .1 .1 .1 .1 .1 .1 .1 in
+    let flows-on = heads-on .1 .1 .1 in
+    let entries-on = flows-on .1 .1 .1 in
+    record {
+      heads = heads-on .0 ∙ k .heads;
+      demands = heads-on .1 .0 ∙ k .demands;
+      drawn = heads-on .1 .1 .0 ∙ k .drawn;
+      flows = flows-on .0 ∙ k .flows;
+      statuses = flows-on .1 .0 ∙ k .statuses;
+      grounded = flows-on .1 .1 .0 ∙ k .grounded;
+      entries = entries-on .0 ∙ k .entries;
+      scratch = entries-on .1 .0 ∙ k .scratch;
+    }
+
 -- a turn counts one trial more
 abbrev counted-of : (a : tie.After-advance Inv-loop μ-loop) → Counts (loop-of a .loop .tally) (a .advance .result .tally)
 counted-of a = turn-counts _ _ _ 0 _ _ _ _ _ (a .advance .ensures .0)
 
 clear-requires : tie.Need-clear-requires Inv-loop μ-loop
-clear-requires c κs = omega (arith, c .before .before .before .before .before .before .before .before .before .before .before .before .before .pre .1 .1 .1 .1 .1 .1 .1)
+clear-requires c κs =
+    let start = c .before .before .before .before .before .before .before .before .before .before .before .before .before in
+    let scratch-long = start .pre .1 .1 .1 .1 .1 .1 .1 in
+    omega (arith, scratch-long)
 
 damping-start-requires : tie.Need-damping-start-requires Inv-loop μ-loop
 damping-start-requires c κs = search needs
@@ -57,13 +87,18 @@ damping-start-requires c κs = search needs
 loop-holds : tie.Need-loop-holds Inv-loop μ-loop
 loop-holds c =
     let k = c .before .before .before in
-    (kept-start _ _ _, omega arith, omega arith, omega arith, rw (sub-zero, c .damping-start .ensures), k .clear .ensures ∙ cleared-zeros 4096 _ (k .before .before .before .before .before .before .before .before .before .before .before .before .before .before .pre .1 .1 .1 .1 .1 .1 .1))
+    let start = before-clear k in
+    let scratch-long = start .pre .1 .1 .1 .1 .1 .1 .1 in
+    (kept-start _ _ _, omega arith, omega arith, omega arith, rw (sub-zero, c .damping-start .ensures), k .clear .ensures ∙ cleared-zeros 4096 _ scratch-long)
 
 advance-requires : tie.Need-advance-requires Inv-loop μ-loop
 advance-requires c κs =
     let i = c .before .before .before .before .before .before .before .before in
     let l = i .before .before in
     let p = start-of l .pre in
+    let room = p .1 .1 .1 .1 .0 in
+    let trials-few = p .1 .1 .1 .1 .1 .0 in
+    let trials-and-bytes = p .1 .1 .1 .1 .1 in
     let v = l .loop .inv in (
       p .0,
       (
@@ -73,10 +108,10 @@ advance-requires c κs =
           (
             p .1 .1 .1 .0,
             (
-              kept-room _ _ _ _ _ _ _ (v .0) (p .1 .1 .1 .1 .0),
+              kept-room _ _ _ _ _ _ _ (v .0) room,
               (
-                omega (arith, v .2, v .3, i .if1 .taken, p .1 .1 .1 .1 .1 .0),
-                (omega (arith, v .0 .entries, i .if1 .taken, p .1 .1 .1 .1 .1), v .5),
+                omega (arith, v .2, v .3, i .if1 .taken, trials-few),
+                (omega (arith, v .0 .entries, i .if1 .taken, trials-and-bytes), v .5),
               ),
             ),
           ),
@@ -96,19 +131,8 @@ loop-again : tie.Need-loop-again Inv-loop μ-loop
 loop-again c =
     let a = advance-of (c .before .before .before) in
     let v = loop-of a .loop .inv in
-    let k = v .0 in
-    let u = a .advance .kept .1 .1 .1 .1 .1 .1 .1 .1 in
     let n = counted-of a in (
-      record {
-        heads = u .0 ∙ k .heads;
-        demands = u .1 .0 ∙ k .demands;
-        drawn = u .1 .1 .0 ∙ k .drawn;
-        flows = u .1 .1 .1 .0 ∙ k .flows;
-        statuses = u .1 .1 .1 .1 .0 ∙ k .statuses;
-        grounded = u .1 .1 .1 .1 .1 .0 ∙ k .grounded;
-        entries = u .1 .1 .1 .1 .1 .1 .0 ∙ k .entries;
-        scratch = u .1 .1 .1 .1 .1 .1 .1 .0 ∙ k .scratch;
-      },
+      kept-on a,
       omega (arith, test-of a .if1 .taken, n),
       omega (arith, n, v .2),
       omega (arith, n, v .3),
@@ -122,42 +146,42 @@ enum-known-going-2 c = search needs
 same-length : tie.Need-same-length Inv-loop μ-loop
 same-length c =
     let a = advance-of (c .before .before .before) in
-    a .advance .kept .1 .1 .1 .1 .1 .1 .1 .1 .0 ∙ loop-of a .loop .inv .0 .heads
+    kept-on a .heads
 
 same-length-2 : tie.Need-same-length-2 Inv-loop μ-loop
 same-length-2 c =
     let a = advance-of (c .before .before .before) in
-    a .advance .kept .1 .1 .1 .1 .1 .1 .1 .1 .1 .0 ∙ loop-of a .loop .inv .0 .demands
+    kept-on a .demands
 
 same-length-3 : tie.Need-same-length-3 Inv-loop μ-loop
 same-length-3 c =
     let a = advance-of (c .before .before .before) in
-    a .advance .kept .1 .1 .1 .1 .1 .1 .1 .1 .1 .1 .0 ∙ loop-of a .loop .inv .0 .drawn
+    kept-on a .drawn
 
 same-length-4 : tie.Need-same-length-4 Inv-loop μ-loop
 same-length-4 c =
     let a = advance-of (c .before .before .before) in
-    a .advance .kept .1 .1 .1 .1 .1 .1 .1 .1 .1 .1 .1 .0 ∙ loop-of a .loop .inv .0 .flows
+    kept-on a .flows
 
 same-length-5 : tie.Need-same-length-5 Inv-loop μ-loop
 same-length-5 c =
     let a = advance-of (c .before .before .before) in
-    a .advance .kept .1 .1 .1 .1 .1 .1 .1 .1 .1 .1 .1 .1 .0 ∙ loop-of a .loop .inv .0 .statuses
+    kept-on a .statuses
 
 same-length-6 : tie.Need-same-length-6 Inv-loop μ-loop
 same-length-6 c =
     let a = advance-of (c .before .before .before) in
-    a .advance .kept .1 .1 .1 .1 .1 .1 .1 .1 .1 .1 .1 .1 .1 .0 ∙ loop-of a .loop .inv .0 .grounded
+    kept-on a .grounded
 
 same-length-7 : tie.Need-same-length-7 Inv-loop μ-loop
 same-length-7 c =
     let a = advance-of (c .before .before .before) in
-    a .advance .kept .1 .1 .1 .1 .1 .1 .1 .1 .1 .1 .1 .1 .1 .1 .0 ∙ loop-of a .loop .inv .0 .entries
+    kept-on a .entries
 
 same-length-8 : tie.Need-same-length-8 Inv-loop μ-loop
 same-length-8 c =
     let a = advance-of (c .before .before .before) in
-    a .advance .kept .1 .1 .1 .1 .1 .1 .1 .1 .1 .1 .1 .1 .1 .1 .1 .0 ∙ loop-of a .loop .inv .0 .scratch ∙ clear-of (loop-of a) .clear .kept .1 .0
+    kept-on a .scratch ∙ clear-of (loop-of a) .clear .kept .1 .0
 
 returns : tie.Need-returns Inv-loop μ-loop
 returns c =

@@ -8,7 +8,9 @@ use Rattle.section_names.proofs.is_passed.Tie as tie
 
 returns : tie.Need-returns
 unfolding passedOver bytesOf
-returns c = rw (c .before .before .before .before .spells .ensures, c .before .before .spells2 .ensures, c .spells3 .ensures)
+returns c =
+    let after-spells = c .before .before .before .before in
+    rw (after-spells .spells .ensures, c .before .before .spells2 .ensures, c .spells3 .ensures)
 
 pub is-passed-spec : {M : Type 1} → statement M
 is-passed-spec =

@@ -24,11 +24,15 @@ loop-holds c = first itself _ _ (c .if1 .left)
 
 returns-2 : tie.Need-returns-2 Inv-loop μ-loop
 unfolding sameBytes itself
-returns-2 c = differs itself (c .before .before .before .before .loop .inv) (omega arith) (c .if2 .taken)
+returns-2 c =
+    let at-loop = c .before .before .before .before in
+    differs itself (at-loop .loop .inv) (omega arith) (c .if2 .taken)
 
 loop-again : tie.Need-loop-again Inv-loop μ-loop
 unfolding sameBytes itself
-loop-again c = next itself (c .before .before .before .before .loop .inv) (omega arith) (c .if2 .left)
+loop-again c =
+    let at-loop = c .before .before .before .before in
+    next itself (at-loop .loop .inv) (omega arith) (c .if2 .left)
 
 returns-3 : tie.Need-returns-3 Inv-loop μ-loop
 unfolding sameBytes itself

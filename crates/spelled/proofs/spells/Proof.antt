@@ -24,11 +24,15 @@ loop-holds c = first capitalOf _ _ (c .if1 .left)
 
 returns-2 : tie.Need-returns-2 Inv-loop μ-loop
 unfolding spelledAs
-returns-2 c = differs capitalOf (c .before .before .before .before .before .loop .inv) (omega arith) (λ e. c .if2 .taken (c .before .before .capital .ensures ∙ e))
+returns-2 c =
+    let at-loop = c .before .before .before .before .before in
+    differs capitalOf (at-loop .loop .inv) (omega arith) (λ e. c .if2 .taken (c .before .before .capital .ensures ∙ e))
 
 loop-again : tie.Need-loop-again Inv-loop μ-loop
 unfolding spelledAs
-loop-again c = next capitalOf (c .before .before .before .before .before .loop .inv) (omega arith) (sym (c .before .before .capital .ensures) ∙ c .if2 .left)
+loop-again c =
+    let at-loop = c .before .before .before .before .before in
+    next capitalOf (at-loop .loop .inv) (omega arith) (sym (c .before .before .capital .ensures) ∙ c .if2 .left)
 
 returns-3 : tie.Need-returns-3 Inv-loop μ-loop
 unfolding spelledAs

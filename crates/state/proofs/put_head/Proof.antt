@@ -12,7 +12,9 @@ mul-heads : tie.Need-mul-heads
 mul-heads c = omega (arith, c .before .before .before .pre .1 .below _ (c .before .row .given .1))
 
 shared-slice-read-heads : tie.Need-shared-slice-read-heads
-shared-slice-read-heads c = omega (arith, c .before .before .before .before .pre .1 .below _ (c .before .before .row .given .1))
+shared-slice-read-heads c =
+    let start = c .before .before .before .before in
+    omega (arith, start .pre .1 .below _ (c .before .before .row .given .1))
 
 returns-2 : tie.Need-returns-2
 returns-2 c = head-unknown _ _ _ _ _ (c .before .before .row .given .1)

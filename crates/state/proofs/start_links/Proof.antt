@@ -17,10 +17,14 @@ loop-holds : tie.Need-loop-holds Inv-loop μ-loop
 loop-holds c = no-links _ _ _ _
 
 link-requires : tie.Need-link-requires Inv-loop μ-loop
-link-requires c κs = (c .before .before .before .before .before .pre .0, c .loop-test .taken)
+link-requires c κs =
+    let start = c .before .before .before .before .before in
+    (start .pre .0, c .loop-test .taken)
 
 link-status-requires : tie.Need-link-status-requires Inv-loop μ-loop
-link-status-requires c κs = (c .before .before .before .before .before .before .pre .0, c .before .loop-test .taken)
+link-status-requires c κs =
+    let start = c .before .before .before .before .before .before in
+    (start .pre .0, c .before .loop-test .taken)
 
 loop-again : tie.Need-loop-again Inv-loop μ-loop
 loop-again c =

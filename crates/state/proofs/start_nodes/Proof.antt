@@ -17,7 +17,9 @@ loop-holds : tie.Need-loop-holds Inv-loop μ-loop
 loop-holds c = no-nodes _ _ _ _
 
 node-requires : tie.Need-node-requires Inv-loop μ-loop
-node-requires c κs = (c .before .before .before .before .before .pre .0, c .loop-test .taken)
+node-requires c κs =
+    let start = c .before .before .before .before .before in
+    (start .pre .0, c .loop-test .taken)
 
 loop-again : tie.Need-loop-again Inv-loop μ-loop
 loop-again c =

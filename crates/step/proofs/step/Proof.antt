@@ -26,20 +26,23 @@ drawn-of w = w .before .before .before .before .before .before
 put-heads-requires : tie.Need-put-heads-requires
 put-heads-requires c κs =
     let start = c .before .before .before .before .before .before .before .before .before .before .before .before .before .before in
-    (omega (arith, start .pre .0 .nodes, start .pre .1 .1 .0 .0, start .pre .1 .1 .1 .0, start .pre .1 .1 .1 .1 .heads), start .pre .1 .1 .0 .1)
+    let room = start .pre .1 .1 .1 .1 in
+    (omega (arith, start .pre .0 .nodes, start .pre .1 .1 .0 .0, start .pre .1 .1 .1 .0, room .heads), start .pre .1 .1 .0 .1)
 
 update-links-requires : tie.Need-update-links-requires
 update-links-requires c κs =
     let p = c .before .before .before .before .before in
     let start = start-of p in
-    (start .pre .0 .laid, (start .pre .0 .ends, omega (arith, start .pre .1 .1 .1 .1 .heads, p .put-heads .kept, start .pre .1 .1 .1 .0, start .pre .1 .1 .1 .1 .flows, start .pre .1 .1 .1 .1 .statuses)))
+    let room = start .pre .1 .1 .1 .1 in
+    (start .pre .0 .laid, (start .pre .0 .ends, omega (arith, room .heads, p .put-heads .kept, start .pre .1 .1 .1 .0, room .flows, room .statuses)))
 
 tank-links-requires : tie.Need-tank-links-requires
 tank-links-requires c κs =
     let u = c .before .before .before .before .before .before .before .before .before in
     let p = put-of u in
     let start = start-of p in
-    (start .pre .0 .laid, (start .pre .1 .0, omega (arith, start .pre .1 .1 .1 .1, p .put-heads .kept, u .update-links .kept)))
+    let room = start .pre .1 .1 .1 .1 in
+    (start .pre .0 .laid, (start .pre .1 .0, omega (arith, room, p .put-heads .kept, u .update-links .kept)))
 
 update-drawn-requires : tie.Need-update-drawn-requires
 update-drawn-requires c κs =
@@ -83,22 +86,32 @@ returns-2 c =
 same-length : tie.Need-same-length
 same-length c =
     let w = c .before .before .before in
-    put-of (update-of (tank-of (drawn-of w))) .put-heads .kept .1 .1 .1 .1 .0
+    let p = put-of (update-of (tank-of (drawn-of w))) in
+    let heads-kept = p .put-heads .kept .1 .1 .1 .1 .0 in
+    heads-kept
 
 same-length-6 : tie.Need-same-length-6
 same-length-6 c =
     let w = c .before .before .before .before in
-    put-of (update-of (tank-of (drawn-of w))) .put-heads .kept .1 .1 .1 .1 .0
+    let p = put-of (update-of (tank-of (drawn-of w))) in
+    let heads-kept = p .put-heads .kept .1 .1 .1 .1 .0 in
+    heads-kept
 
 same-length-9 : tie.Need-same-length-9
 same-length-9 c =
     let w = c .before .before .before .before in
-    update-of (tank-of (drawn-of w)) .update-links .kept .1 .1 .1 .1 .1 .1 .0
+    let u = update-of (tank-of (drawn-of w)) in
+    let flows-kept = u .update-links .kept .1 .1 .1 .1 .1 .1 .0 in
+    flows-kept
 
 same-length-10 : tie.Need-same-length-10
 same-length-10 c =
-    let t = tank-of (drawn-of (c .before .before .before .before)) in
-    t .tank-links .kept .1 .1 .1 .1 .1 .1 .1 .0 ∙ update-of t .update-links .kept .1 .1 .1 .1 .1 .1 .1 .0
+    let w = c .before .before .before .before in
+    let t = tank-of (drawn-of w) in
+    let u = update-of t in
+    let statuses-kept-by-tanks = t .tank-links .kept .1 .1 .1 .1 .1 .1 .1 .0 in
+    let statuses-kept-by-links = u .update-links .kept .1 .1 .1 .1 .1 .1 .1 .0 in
+    statuses-kept-by-tanks ∙ statuses-kept-by-links
 
 pub step-spec : {M : Type 1} → statement M
 step-spec =

@@ -20,7 +20,7 @@ abbrev μ-loop : tie.MeasureT-loop
 
 -- where the function was called
 abbrev start-of : tie.At-loop Inv-loop μ-loop → tie.Start Inv-loop μ-loop
-start-of c = let begun = c .before in begun .before .before .before .before
+start-of c = c .before .before .before .before .before
 
 -- where the line was found
 abbrev found-of : tie.After-line-fault Inv-loop μ-loop → tie.After-line-at Inv-loop μ-loop

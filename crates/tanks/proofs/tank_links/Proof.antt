@@ -19,7 +19,9 @@ loop-holds : tie.Need-loop-holds Inv-loop μ-loop
 loop-holds c = record { upto = omega arith; made = tanks-none _ _ _ _ _; d-long = refl; t-long = refl }
 
 is-tank-requires : tie.Need-is-tank-requires Inv-loop μ-loop
-is-tank-requires c κs = (c .before .before .before .before .before .before .before .before .before .pre .0, c .loop-test .taken)
+is-tank-requires c κs =
+    let start = c .before .before .before .before .before .before .before .before .before in
+    (start .pre .0, c .loop-test .taken)
 
 update-tank-requires : tie.Need-update-tank-requires Inv-loop μ-loop
 update-tank-requires c κs =

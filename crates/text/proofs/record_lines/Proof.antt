@@ -23,7 +23,8 @@ loop-holds c = (omega arith, refl, omega arith, no-records _ _ _)
 add-i : tie.Need-add-i Inv-loop μ-loop
 add-i c =
     let t = c .before .before .before .before .before .before .before .before .before .before .before .before .before .before .before .before .before .before .before .before .before .before .before .before .before .before .before in
-    omega (arith, t .loop-test .taken, t .before .before .before .before .good)
+    let start = t .before .before .before .before in
+    omega (arith, t .loop-test .taken, start .good)
 
 loop-again : tie.Need-loop-again Inv-loop μ-loop
 unfolding recordLine
@@ -40,8 +41,9 @@ loop-again c =
 
 returns : tie.Need-returns Inv-loop μ-loop
 returns c =
+    let start = c .before .before .before .before in
     let l = c .before .loop in
-    let e : l .i ≡ c .before .before .before .before .args .count = omega arith in
+    let e : l .i ≡ start .args .count = omega arith in
     rw (← e) (l .inv .3 .bytes, l .inv .3 .next)
 
 pub record-lines-spec : {M : Type 1} → statement M

@@ -30,6 +30,12 @@ excess-of a = a .before .before .before .before .before .before .before .before 
 abbrev assemble-of : tie.After-factor → tie.After-assemble
 assemble-of f = f .before .before .before .before .before .before .before
 
+abbrev factor-of : tie.After-substitute → tie.After-factor
+factor-of s = s .before .before .before .before .before .before .before
+
+abbrev substitute-of : tie.After-step → tie.After-substitute
+substitute-of o = o .before .before .before .before .before .before .before .before .before .before .before
+
 -- the scratch has room for the matrix
 all-long : {x : List Float} → x ≡ zeros 4096 → length x ≡ 4096
 all-long h = ap length h ∙ zeros-long 4096
@@ -46,12 +52,14 @@ module _ (a : tie.After-assemble) where
   filled = let x = a .assemble .last .1 .1 .1 .1 .1 .1 .1 .1 .1 .1 .1 in system (x .0) (x .1 .0) (x .1 .1 .0) (x .1 .1 .1 .0)
 
   long : length (start .args .scratch .now) ≡ 4096
-  long = all-long (start .pre .1 .1 .1 .1 .1)
+  long = let cleared = start .pre .1 .1 .1 .1 .1 in all-long cleared
 
   assembled : filled ≡ systemOf (start .args .sheet .now) (start .args .l) was
   unfolding zeros
   assembled =
-      system-of (start .args .sheet .now) (start .args .l) was (start .args .scratch .now) _ (excess-of a .excess-flows .last .1 .1 .1 .1 .0) (filled .matrix) (filled .rhs) (filled .g) (filled .y) (long) (counts-of (excess-of a) .counts .ensures) (excess-of a .excess-flows .ensures) (a .assemble .ensures)
+      let e = excess-of a in
+      let excess = e .excess-flows .last .1 .1 .1 .1 .0 in
+      system-of (start .args .sheet .now) (start .args .l) was (start .args .scratch .now) _ excess (filled .matrix) (filled .rhs) (filled .g) (filled .y) (long) (counts-of e .counts .ensures) (e .excess-flows .ensures) (a .assemble .ensures)
 
   -- the matrix has room for the unknowns
   few : start .args .l .unknowns ≤ 64
@@ -70,6 +78,7 @@ assemble-requires c κs =
     let e = c .before .before .before .before .before .before .before .before .before .before .before .before in
     let s = start-of (counts-of e) in
     let net = s .pre .0 in
+    let cleared = s .pre .1 .1 .1 .1 .1 in
     let room = s .pre .1 .1 .1 .1 .0 in (
       record {
         laid = net .laid;
@@ -84,8 +93,8 @@ assemble-requires c κs =
         rows = s .pre .1 .1 .0 .1;
       },
       (
-        record { matrix = all-long (s .pre .1 .1 .1 .1 .1); rhs = omega arith; g = omega (arith, net .links); y = omega (arith, net .links) },
-        (s .pre .1 .1 .1 .1 .1, ((room .demands, (room .drawn, room .grounded)), s .pre .1 .1 .1 .0)),
+        record { matrix = all-long cleared; rhs = omega arith; g = omega (arith, net .links); y = omega (arith, net .links) },
+        (cleared, ((room .demands, (room .drawn, room .grounded)), s .pre .1 .1 .1 .0)),
       ),
     )
 
@@ -93,7 +102,9 @@ factor-requires : tie.Need-factor-requires
 factor-requires c κs = let a = c .before .before .before .before .before .before in omega (arith, few a, long a, a .assemble .kept)
 
 node-of-requires : tie.Need-node-of-requires
-node-of-requires c κs = let s = start (assemble-of (c .before .before .before .before .before)) in s .pre .1 .1 .0
+node-of-requires c κs =
+    let f = c .before .before .before .before .before in
+    let s = start (assemble-of f) in s .pre .1 .1 .0
 
 repair-requires : tie.Need-repair-requires
 repair-requires c κs =
@@ -113,9 +124,10 @@ substitute-requires c κs =
 step-requires : tie.Need-step-requires
 step-requires c κs =
     let x = c .before .before .before .before .before .before .before .before .before .before in
-    let a = assemble-of (x .before .before .before .before .before .before .before) in
+    let a = assemble-of (factor-of x) in
     let s = start a in
-    (s .pre .0, (s .pre .1 .0, (s .pre .1 .1 .0, (omega (arith, s .pre .0 .links, a .assemble .kept, x .substitute .kept), s .pre .1 .1 .1 .1 .0))))
+    let room = s .pre .1 .1 .1 .1 .0 in
+    (s .pre .0, (s .pre .1 .0, (s .pre .1 .1 .0, (omega (arith, s .pre .0 .links, a .assemble .kept, x .substitute .kept), room))))
 
 -- the factors that are left
 factors : (f : tie.After-factor) → f .factor .last .0 ≡ factorsOf (start (assemble-of f) .args .sheet .now) (start (assemble-of f) .args .l) (was (assemble-of f))
@@ -139,22 +151,24 @@ returns c =
 returns-2 : tie.Need-returns-2
 returns-2 c =
     let o = c .before .before .before .before .before .before .before .before .before .before in
-    let z = o .before .before .before .before .before .before .before .before .before .before .before in
-    let f = z .before .before .before .before .before .before .before in
+    let z = substitute-of o in
+    let f = factor-of z in
     let a = assemble-of f in
     let v = start a .args in
     let m = filled a in
-    let h = o .step .last .1 .1 .1 .1 .1 .1 .1 .1 .1 in (
-      trial-steps repairOf (v .sheet .now) (v .l) (v .d) (was a) (m .matrix) (m .rhs) (m .g) (m .y) (f .factor .last .0) (f .factor .result) (outcome (o .step .result) (state (h .0) (h .1 .0) (h .1 .1 .0) (h .1 .1 .1 .0) (h .1 .1 .1 .1 .0) (v .grounded .now))) (assembled a) (f .factor .ensures .0) (f .factor .ensures .1) _ (z .before .before .before .enum-told .given .1) (z .substitute .ensures) (o .step .ensures),
+    let h = o .step .last .1 .1 .1 .1 .1 .1 .1 .1 .1 in
+    let statuses = h .1 .1 .1 .1 .0 in (
+      trial-steps repairOf (v .sheet .now) (v .l) (v .d) (was a) (m .matrix) (m .rhs) (m .g) (m .y) (f .factor .last .0) (f .factor .result) (outcome (o .step .result) (state (h .0) (h .1 .0) (h .1 .1 .0) (h .1 .1 .1 .0) statuses (v .grounded .now))) (assembled a) (f .factor .ensures .0) (f .factor .ensures .1) _ (z .before .before .before .enum-told .given .1) (z .substitute .ensures) (o .step .ensures),
       factors f,
     )
 
 same-length-14 : tie.Need-same-length-14
 same-length-14 c =
     let o = c .before .before .before .before .before .before .before .before .before .before in
-    let z = o .before .before .before .before .before .before .before .before .before .before .before in
-    let f = z .before .before .before .before .before .before .before in
-    f .factor .kept .0 ∙ assemble-of f .assemble .kept .1 .1 .1 .1 .1 .1 .1 .1 .1 .1 .1 .0
+    let f = factor-of (substitute-of o) in
+    let a = assemble-of f in
+    let matrix-kept = a .assemble .kept .1 .1 .1 .1 .1 .1 .1 .1 .1 .1 .1 .0 in
+    f .factor .kept .0 ∙ matrix-kept
 
 pub trial-spec : {M : Type 1} → statement M
 trial-spec =

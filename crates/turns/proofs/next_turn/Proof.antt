@@ -17,11 +17,14 @@ use Rattle.turns.proofs.next_turn.Statement.{statement}
 use Rattle.turns.proofs.next_turn.Tie as tie
 
 -- the places, each from the one after it
+abbrev before-clear : tie.After-clear → tie.Start
+before-clear k = k .before .before .before .before .before .before .before .before .before .before .before
+
 abbrev clear-of : tie.After-due → tie.After-clear
 clear-of d = d .before .before .before
 
 abbrev start-of : tie.After-due → tie.Start
-start-of d = clear-of d .before .before .before .before .before .before .before .before .before .before .before
+start-of d = before-clear (clear-of d)
 
 abbrev due-of : tie.After-number-unknowns → tie.After-due
 due-of n = n .before .before .before .before
@@ -34,7 +37,10 @@ listed-of a = a .before .before .before .before .before .before .before .before 
 
 -- the scratch once it is cleared
 wiped : (d : tie.After-due) → clear-of d .clear .last .1 .0 ≡ zeros 4096
-wiped d = clear-of d .clear .ensures ∙ cleared-zeros 4096 _ (start-of d .pre .1 .1 .1 .1 .1)
+wiped d =
+    let start = start-of d in
+    let scratch-long = start .pre .1 .1 .1 .1 .1 in
+    clear-of d .clear .ensures ∙ cleared-zeros 4096 _ scratch-long
 
 returns : tie.Need-returns
 returns c =
@@ -75,7 +81,8 @@ advance-requires c κs =
 same-length-9 : tie.Need-same-length-9
 same-length-9 c =
     let a = c .before .before .before .before .before .before .before .before .before .before .before .before .before .before .before .before in
-    a .advance .kept .1 .1 .1 .1 .1 .1 .1 .1 .1 .1 .1 .1 .1 .1 .1 .0 ∙ clear-of (due-of (unknowns-of (listed-of a))) .clear .kept .1 .0
+    let scratch-kept = a .advance .kept .1 .1 .1 .1 .1 .1 .1 .1 .1 .1 .1 .1 .1 .1 .1 .0 in
+    scratch-kept ∙ clear-of (due-of (unknowns-of (listed-of a))) .clear .kept .1 .0
 
 returns-2 : tie.Need-returns-2
 returns-2 c =

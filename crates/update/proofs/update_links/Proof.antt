@@ -24,7 +24,8 @@ update-link-requires c κs =
     let v = o .loop .inv in
     let more = t .loop-test .taken in
     let p = s .pre .1 .1 in
-    (s .pre .0, (s .pre .1 .0, ((p .0, more), (omega (arith, p .1 .0, more), (omega (arith, p .1 .1 .0, more), (omega (arith, p .1 .1 .1 .0, v .q-long, more), omega (arith, p .1 .1 .1 .1, v .c-long, more)))))))
+    let statuses-long = p .1 .1 .1 .1 in
+    (s .pre .0, (s .pre .1 .0, ((p .0, more), (omega (arith, p .1 .0, more), (omega (arith, p .1 .1 .0, more), (omega (arith, p .1 .1 .1 .0, v .q-long, more), omega (arith, statuses-long, v .c-long, more)))))))
 
 loop-again : tie.Need-loop-again Inv-loop μ-loop
 loop-again c =

@@ -30,10 +30,14 @@ part-show-words-end : tie.Need-part-show-words-end Inv-loop μ-loop
 part-show-words-end c = omega (arith, at-line c)
 
 loop-less : tie.Need-loop-less Inv-loop μ-loop
-loop-less c = omega (arith, at-line (c .before .before .before .before .before) .within, at-line (c .before .before .before .before .before) .further (c .if1 .left))
+loop-less c =
+    let after-line = c .before .before .before .before .before in
+    omega (arith, at-line after-line .within, at-line after-line .further (c .if1 .left))
 
 loop-again : tie.Need-loop-again Inv-loop μ-loop
-loop-again c = at-line (c .before .before .before .before .before) .within
+loop-again c =
+    let after-line = c .before .before .before .before .before in
+    at-line after-line .within
 
 pub show-lines-spec : {M : Type 1} → statement M
 show-lines-spec =

@@ -32,6 +32,7 @@ add-links-requires : tie.Need-add-links-requires
 add-links-requires c κs =
     let m2 = c .before .before .before .before .before .before in
     let s = start-of m2 in
+    let table-is = s .pre .1 .1 .1 .1 in
     let z = s .pre .1 .0 in (
       s .pre .0,
       (
@@ -41,7 +42,7 @@ add-links-requires c κs =
           g = z .g;
           y = z .y;
         },
-        s .pre .1 .1 .1 .1,
+        table-is,
       ),
     )
 

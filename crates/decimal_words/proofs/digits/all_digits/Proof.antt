@@ -19,10 +19,14 @@ loop-holds : tie.Need-loop-holds Inv-loop μ-loop
 loop-holds c = record { same = refl; within = omega arith }
 
 returns : tie.Need-returns Inv-loop μ-loop
-returns c = check-fails (c .before .before .before .before .loop .inv) (omega arith) (sym (c .before .is-digit .ensures) ∙ was-false _ (c .if1 .taken))
+returns c =
+    let at-loop = c .before .before .before .before in
+    check-fails (at-loop .loop .inv) (omega arith) (sym (c .before .is-digit .ensures) ∙ was-false _ (c .if1 .taken))
 
 loop-again : tie.Need-loop-again Inv-loop μ-loop
-loop-again c = check-next (c .before .before .before .before .loop .inv) (omega arith) (sym (c .before .is-digit .ensures) ∙ was-true _ (c .if1 .left))
+loop-again c =
+    let at-loop = c .before .before .before .before in
+    check-next (at-loop .loop .inv) (omega arith) (sym (c .before .is-digit .ensures) ∙ was-true _ (c .if1 .left))
 
 returns-2 : tie.Need-returns-2 Inv-loop μ-loop
 returns-2 c = check-ends (c .before .loop .inv) (omega arith)

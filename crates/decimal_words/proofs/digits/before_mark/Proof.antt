@@ -27,7 +27,9 @@ returns c =
 
 loop-again : tie.Need-loop-again Inv-loop μ-loop
 unfolding isMark
-loop-again c = next isMark (c .before .before .before .before .loop .inv) (omega arith) (sym (c .before .is-mark .ensures) ∙ c .if1 .left)
+loop-again c =
+    let at-loop = c .before .before .before .before in
+    next isMark (at-loop .loop .inv) (omega arith) (sym (c .before .is-mark .ensures) ∙ c .if1 .left)
 
 returns-2 : tie.Need-returns-2 Inv-loop μ-loop
 returns-2 c = (omega (arith, ended isMark (c .before .loop .inv) (omega arith)), c .before .loop .inv .within)

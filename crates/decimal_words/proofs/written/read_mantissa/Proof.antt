@@ -16,8 +16,11 @@ use Rattle.decimal_words.proofs.written.read_mantissa.Tie as tie
 
 -- where both parts are at hand
 module _ (p : tie.After-bytes-behind) where
+  abbrev start : tie.Start
+  start = p .before .before .before .before
+
   abbrev m : List ℕ
-  m = now (p .before .before .before .before .args .m)
+  m = now (start .args .m)
 
   abbrev point : ℕ
   point = p .before .before .before-point .result
@@ -55,7 +58,10 @@ module _ (c : tie.Else4) where
   at = c .before .before .before .before .before .before
 
   whole-is : allDigits (a at) ≡ true
-  whole-is = sym (c .before .before .before .before .before .all-digits .ensures) ∙ was-true _ (c .before .before .before .before .if1 .left)
+  whole-is =
+      let told = c .before .before .before .before .before .all-digits .ensures in
+      let digits = c .before .before .before .before .if1 .left in
+      sym told ∙ was-true _ digits
 
   part-is : allDigits (b at) ≡ true
   part-is = sym (c .before .before .before .all-digits2 .ensures) ∙ was-true _ (c .before .before .if2 .left)

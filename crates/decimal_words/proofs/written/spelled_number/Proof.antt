@@ -21,8 +21,14 @@ bytes-from-requires c κs = omega (arith, c .sign-length .ensures, sign-within (
 
 -- where the mantissa is read
 module _ (p : tie.After-read-mantissa) where
+  abbrev start : tie.Start
+  start = p .before .before .before .before .before .before .before
+
+  abbrev after-sign : tie.After-is-negated
+  after-sign = p .before .before .before .before .before
+
   abbrev w : List ℕ
-  w = now (p .before .before .before .before .before .before .before .args .word)
+  w = now (start .args .word)
 
   abbrev u : List ℕ
   u = now (p .before .before .before .bytes-from .result)
@@ -31,7 +37,9 @@ module _ (p : tie.After-read-mantissa) where
   mark = p .before .before .before-mark .result
 
   u-is : u ≡ unsigned w
-  u-is = p .before .before .before .bytes-from .ensures ∙ ap (λ (n : ℕ). drop n w) (p .before .before .before .before .sign-length .ensures)
+  u-is =
+      let sign-long = p .before .before .before .before .sign-length .ensures in
+      p .before .before .before .bytes-from .ensures ∙ ap (λ (n : ℕ). drop n w) sign-long
 
   mark-is : mark ≡ stretch isMark u
   mark-is = p .before .before .before-mark .ensures .0
@@ -55,7 +63,7 @@ returns : tie.Need-returns
 returns c =
     let d = c .before in
     let p = d .before .before .before in
-    c .joined .ensures ∙ with-exponent (w p) (u p) _ _ (p .before .before .before .before .before .is-negated .ensures) (u-is p) _ (m-is p) (omega (arith, mark-is p, d .before .before .if1 .taken)) (exponent-is d)
+    c .joined .ensures ∙ with-exponent (w p) (u p) _ _ (after-sign p .is-negated .ensures) (u-is p) _ (m-is p) (omega (arith, mark-is p, d .before .before .if1 .taken)) (exponent-is d)
 
 joined-requires-2 : tie.Need-joined-requires-2
 joined-requires-2 c κs = (few-places (c .before), lit≤ tt)
@@ -63,7 +71,7 @@ joined-requires-2 c κs = (few-places (c .before), lit≤ tt)
 returns-2 : tie.Need-returns-2
 returns-2 c =
     let p = c .before .before in
-    c .joined2 .ensures ∙ without-exponent (w p) (u p) _ _ (p .before .before .before .before .before .is-negated .ensures) (u-is p) (m-is p) (omega (arith, mark-is p, c .before .if1 .left))
+    c .joined2 .ensures ∙ without-exponent (w p) (u p) _ _ (after-sign p .is-negated .ensures) (u-is p) (m-is p) (omega (arith, mark-is p, c .before .if1 .left))
 
 pub spelled-number-spec : {M : Type 1} → statement M
 spelled-number-spec =

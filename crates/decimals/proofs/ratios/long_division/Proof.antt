@@ -24,16 +24,24 @@ digit-of-requires c κs =
     omega (arith, c .twice .ensures, c .before .before .loop .inv .1 .small, s .pre)
 
 mul-q : tie.Need-mul-q Inv-loop μ-loop
-mul-q c = omega (arith, bound (c .before .before .before .before .loop .inv .1))
+mul-q c =
+    let at-loop = c .before .before .before .before in
+    omega (arith, bound (at-loop .loop .inv .1))
 
 add-q : tie.Need-add-q Inv-loop μ-loop
-add-q c = omega (arith, bound (c .before .before .before .before .before .loop .inv .1), c .before .before .digit-of .ensures .1)
+add-q c =
+    let at-loop = c .before .before .before .before .before in
+    omega (arith, bound (at-loop .loop .inv .1), c .before .before .digit-of .ensures .1)
 
 add-i : tie.Need-add-i Inv-loop μ-loop
-add-i c = omega (arith, c .before .before .before .before .loop-test .taken)
+add-i c =
+    let more = c .before .before .before .before .loop-test .taken in
+    omega (arith, more)
 
 loop-less : tie.Need-loop-less Inv-loop μ-loop
-loop-less c = omega (arith, c .before .before .before .before .loop-test .taken)
+loop-less c =
+    let more = c .before .before .before .before .loop-test .taken in
+    omega (arith, more)
 
 loop-again : tie.Need-loop-again Inv-loop μ-loop
 loop-again c =

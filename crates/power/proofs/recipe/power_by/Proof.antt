@@ -50,7 +50,9 @@ float-from-bits-result c = tt
 
 returns-5 : tie.Need-returns-5
 unfolding ofBits ofFields
-returns-5 c = to (c .before .before .before .before) _ (huge _ _ (omega arith) (omega arith))
+returns-5 c =
+    let no-nan = c .before .before .before .before in
+    to no-nan _ (huge _ _ (omega arith) (omega arith))
 
 entry-a-requires : tie.Need-entry-a-requires
 entry-a-requires c κs = search needs
@@ -63,7 +65,9 @@ entry-a-requires-2 c κs = search needs
 
 int-to-float-t : tie.Need-int-to-float-t
 unfolding inFloat
-int-to-float-t c = le→leb (p (c .before .before .before .before .before .before .before) % 2 ^ 42) (2 ^ 53) (omega arith)
+int-to-float-t c =
+    let no-nan = c .before .before .before .before .before .before .before in
+    le→leb (p no-nan % 2 ^ 42) (2 ^ 53) (omega arith)
 
 place-requires : tie.Need-place-requires
 place-requires c κs = search needs
@@ -75,7 +79,8 @@ returns-6 : tie.Need-returns-6
 unfolding between
 returns-6 c =
     let d = c .before .before .before in
-    to (d .before .before .before .before .before .before) _ (middle _ _ (omega arith) (omega arith) ∙ simp (d .before .entry-a .ensures, d .entry-a2 .ensures, c .entry-b .ensures, c .before .place .ensures))
+    let no-nan = d .before .before .before .before .before .before in
+    to no-nan _ (middle _ _ (omega arith) (omega arith) ∙ simp (d .before .entry-a .ensures, d .entry-a2 .ensures, c .entry-b .ensures, c .before .place .ensures))
 
 pub power-by-spec : {M : Type 1} → statement M
 power-by-spec = tie.close (tie.spec returns float-to-bits-p returns-2 returns-3 returns-4 float-from-bits-result returns-5 entry-a-requires add-entry-a entry-a-requires-2 int-to-float-t place-requires entry-b-requires returns-6)

@@ -32,11 +32,13 @@ is-record-requires : tie.Need-is-record-requires Inv-loop μ-loop
 is-record-requires c κs = omega arith
 
 -- the record that was found, and where it ends
-found : (c : tie.Then1 Inv-loop μ-loop) → readable (c .before .before .before .before .args .first) (c .before .before .before .before .args .second) (c .before .before .before .before .args .size) (c .before .before .before .before .args .sheet .now) (c .before .before .loop .at) ≡ true
+found : (c : tie.Then1 Inv-loop μ-loop) → let a = c .before .before .before .before .args in readable (a .first) (a .second) (a .size) (a .sheet .now) (c .before .before .loop .at) ≡ true
 found c = sym (c .before .is-record .ensures) ∙ c .if1 .taken
 
-ends : (c : tie.Then1 Inv-loop μ-loop) → c .before .before .loop .at + c .before .before .before .before .args .size ≤ length (c .before .before .before .before .args .sheet .now)
-ends c = let a = c .before .before .before .before .args in fits (a .first) (a .second) (a .size) (a .sheet .now) (c .before .before .loop .at) (found c)
+ends : (c : tie.Then1 Inv-loop μ-loop) → let a = c .before .before .before .before .args in c .before .before .loop .at + a .size ≤ length (a .sheet .now)
+ends c =
+    let start = c .before .before .before .before in
+    let a = start .args in fits (a .first) (a .second) (a .size) (a .sheet .now) (c .before .before .loop .at) (found c)
 
 add-at : tie.Need-add-at Inv-loop μ-loop
 add-at c = omega (arith, ends c)

@@ -15,7 +15,7 @@ start c =
     let o = r .before .before in
     omega (arith, c .heading .ensures, heading-inside (o .args .sheet .now) (r .is-record .result) (o .pre) (r .is-record .ensures))
 
-behind : (c : tie.After-count-records) → c .before .heading .result + 45 * c .count-records .result ≤ length (c .before .before .before .before .args .sheet .now)
+behind : (c : tie.After-count-records) → let o = c .before .before .before .before in c .before .heading .result + 45 * c .count-records .result ≤ length (o .args .sheet .now)
 behind c =
     let h = c .before in
     run-inside (h .before .before .before .args .sheet .now) 78 68 45 (h .heading .result) (c .count-records .result) (start h) (c .count-records .ensures)

@@ -36,7 +36,9 @@ loop2-holds : tie.Need-loop2-holds Inv-loop μ-loop Inv-loop2 μ-loop2
 loop2-holds c = (omega arith, refl, refl)
 
 loop2-again : tie.Need-loop2-again Inv-loop μ-loop Inv-loop2 μ-loop2
-loop2-again c = (omega arith, simp length-set (omega arith), back-next _ _ _ _ _ (omega arith) (c .before .less-after .ensures) ∙ c .before .before .before .before .loop2 .inv .2)
+loop2-again c =
+    let at-loop2 = c .before .before .before .before in
+    (omega arith, simp length-set (omega arith), back-next _ _ _ _ _ (omega arith) (c .before .less-after .ensures) ∙ at-loop2 .loop2 .inv .2)
 
 returns : tie.Need-returns Inv-loop μ-loop Inv-loop2 μ-loop2
 returns c =

@@ -17,8 +17,9 @@ same-length c = c .before .before .put-decimal .kept .1 .0 ∙ simp length-set
 returns : tie.Need-returns
 unfolding numberWord
 returns c =
+    let start = c .before .before .before .before .before in
     let f = c .before .before .put-decimal in
-    (then (byte _ _ 32) (f .ensures), omega (arith, decimal-length (c .before .before .before .before .before .args .n)))
+    (then (byte _ _ 32) (f .ensures), omega (arith, decimal-length (start .args .n)))
 
 pub put-number-spec : {M : Type 1} → statement M
 put-number-spec = tie.close (tie.spec (λ c. omega arith) (λ c. omega arith) put-decimal-requires same-length returns)
