@@ -1,4 +1,4 @@
--- No buffer is too short, over plain variables. Assumes nothing.
+-- No buffer is too short, and the answer to a refusal, over plain variables. Assumes nothing.
 use Prim.Native.Nat.{ℕ, _≤_}
 use mathlib.Core.Path.{_≡_, refl}
 use mathlib.Core.Bool.{Bool, true, false, cond}
@@ -9,7 +9,11 @@ use lib.ListN.{length}
 use Rattle.found.specs.declared.Found.{Found}
 use Rattle.found.specs.declared.Found.the-variants.{At, Nothing}
 use Rattle.layout.specs.declared.places.Layout.{Layout}
-use Rattle.answers.specs.Answers.{Lent, tooShort, Enough}
+use Rattle.refusals.specs.Refusals.{numberOf, placeOf}
+use Rattle.refusals.specs.declared.refusals.Refusal.{Refusal}
+use Rattle.entries.specs.Entries.{none}
+use Rattle.answers.specs.Answers.{Lent, tooShort, failedOf, Enough}
+use Rattle.answers.specs.declared.Answer.{Answer}
 
 passed : (a b x : ℕ) (f : Found) → cond (ltb a b) (At x) f ≡ Nothing → (b ≤ a) × (f ≡ Nothing)
 passed a b x f e = go (ltb a b) refl e
@@ -30,3 +34,6 @@ enough l trials b e =
     let r = passed _ _ _ _ (c .1) in
     let x = passed _ _ _ _ (r .1) in
     record { heads = h .0; demands = d .0; flows = q .0; statuses = c .0; entries = r .0; scratch = x .0 }
+
+pub refused-as : (a : Answer) (r : Refusal) (number place : ℕ) → number ≡ numberOf r → place ≡ placeOf r → a ≡ failedOf number place none → a ≡ failedOf (numberOf r) (placeOf r) none
+refused-as a r number place en ep ea = rw (← en, ← ep) ea

@@ -1,10 +1,13 @@
-// The answer, refusal 5, and an answer without results (document 01, "What the desk is told").
+// The answer, refusal 5, and answers without results (document 01, "What the desk is told").
 ghost use mathlib.Core.Path.{_≡_};
 ghost use Prim.Native.Nat.{_≤_};
+ghost use Rattle.refusals.specs.Refusals.{numberOf, placeOf};
+ghost use Rattle.entries.specs.Entries.{none};
 ghost use Rattle.answers.specs.Answers.{tooShort, failedOf};
 use entries::Tally;
 use found::Found;
 use layout::Layout;
+use refusals::Refusal;
 
 pub struct Answer {
     pub number: usize,
@@ -66,4 +69,26 @@ pub fn failed(number: usize, place: usize, t: Tally) -> Answer
         supply: 0.0,
         error: 0.0,
     }
+}
+
+// An answer before any trial.
+pub fn refused(number: usize, place: usize) -> Answer
+    ensures { λ a. ⌜ a ≡ failedOf number place none ⌝ }
+{
+    failed(
+        number,
+        place,
+        Tally {
+            trials: 0,
+            freed: 0,
+            grounded: 0,
+        },
+    )
+}
+
+// The answer to a sheet that is refused.
+pub fn refuse(r: Refusal) -> Answer
+    ensures { λ a. ⌜ a ≡ failedOf (numberOf r) (placeOf r) none ⌝ }
+{
+    refused(refusals::refusal_number(r), refusals::refusal_place(r))
 }

@@ -66,7 +66,7 @@ fn refuse_one(place: usize, judging: Judging, counts: &mut [u64], totals: &mut [
     ensures { λ _. ⌜ now (counts .exit) ≡ refusedCounts judging place (now (counts .entry)) ⌝ }
     ensures { λ _. ⌜ now (totals .exit) ≡ totalsPut (failedOf 3 place none) (now (totals .entry)) ⌝ }
 {
-    let a = solver::refuse(Refusal::Field(place));
+    let a = answers::refuse(Refusal::Field(place));
     put_totals(a, totals);
     put_counts(a, counts);
     if let Judging::By(_) = judging {

@@ -108,7 +108,7 @@ pub fn sell(
 {
     match sheet::read(sheet) {
         Reading::Refused(r) => {
-            let answer = solver::refuse(r);
+            let answer = answers::refuse(r);
             let verdict = unsold(answer.number);
             Sold {
                 answer: answer,

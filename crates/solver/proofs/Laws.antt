@@ -94,9 +94,6 @@ solved-of repair s l trials b f o et ef eo = rw (← ef, ← et) eo
 
 -- ---- before the run
 
-pub refused-as : (a : Answer) (r : Refusal) (number place : ℕ) → number ≡ numberOf r → place ≡ placeOf r → a ≡ failedOf number place none → a ≡ failedOf (numberOf r) (placeOf r) none
-refused-as a r number place en ep ea = rw (← en, ← ep) ea
-
 module _ (repair : Repair) (s : List ℕ) (b : Lent) (reading : Reading) (read : reading ≡ readOf s) where
   pub solve-refused : (a : Answer) (r : Refusal) → reading ≡ Refused r → a ≡ failedOf (numberOf r) (placeOf r) none → record { answer = a; lent = b } ≡ solveWith repair s b
   unfolding solveWith afterRead refusedOf

@@ -2,43 +2,17 @@
 ghost use mathlib.Core.Path.{_≡_};
 ghost use Prim.Native.Nat.{_*_, _≤_};
 ghost use lib.ListN.{length};
-ghost use Rattle.refusals.specs.Refusals.{numberOf, placeOf};
 ghost use Rattle.sheet.specs.Read.{readOf};
 ghost use Rattle.state.specs.State.{state};
-ghost use Rattle.entries.specs.Entries.{none};
-ghost use Rattle.answers.specs.Answers.{lent, failedOf, Enough};
+ghost use Rattle.answers.specs.Answers.{lent, Enough};
 ghost use Rattle.conclusion.specs.Conclusion.{emptied};
 ghost use Rattle.trial.specs.Trial.{Room, repairOf};
 ghost use Rattle.solver.specs.Solve.{trialsOf, startOf, runOf, solvedWith, afterRead, solveOf};
 use answers::Answer;
-use entries::Tally;
 use found::Found;
 use layout::Layout;
-use refusals::Refusal;
 use runs::Ran;
 use sheet::Reading;
-
-// An answer before any trial.
-fn refused(number: usize, place: usize) -> Answer
-    ensures { λ a. ⌜ a ≡ failedOf number place none ⌝ }
-{
-    answers::failed(
-        number,
-        place,
-        Tally {
-            trials: 0,
-            freed: 0,
-            grounded: 0,
-        },
-    )
-}
-
-// The answer to a sheet that is refused.
-pub fn refuse(r: Refusal) -> Answer
-    ensures { λ a. ⌜ a ≡ failedOf (numberOf r) (placeOf r) none ⌝ }
-{
-    refused(refusals::refusal_number(r), refusals::refusal_place(r))
-}
 
 // The run of a sheet that was read, from its first columns.
 fn run(
@@ -171,7 +145,7 @@ pub fn solve_read(
         entries.len(),
         scratch.len(),
     ) {
-        Found::At(place) => refused(5, place),
+        Found::At(place) => answers::refused(5, place),
         Found::Nothing => solved(
             sheet,
             l,
@@ -198,7 +172,7 @@ pub fn solve(
     ensures { λ r. ⌜ record { answer = r; lent = lent (now (heads .exit)) (now (demands .exit)) (now (flows .exit)) (now (statuses .exit)) (now (entries .exit)) (now (scratch .exit)) } ≡ solveOf (now (sheet .entry)) (lent (now (heads .entry)) (now (demands .entry)) (now (flows .entry)) (now (statuses .entry)) (now (entries .entry)) (now (scratch .entry))) ⌝ }
 {
     match sheet::read(sheet) {
-        Reading::Refused(r) => refuse(r),
+        Reading::Refused(r) => answers::refuse(r),
         Reading::Good(l) => solve_read(sheet, l, heads, demands, flows, statuses, entries, scratch),
     }
 }

@@ -1,8 +1,8 @@
--- `solver::refuse` meets its contract. Assumes nothing.
+-- `answers::refuse` meets its contract. Assumes nothing.
 use borrow.Author.Needs.{needs}
-use Rattle.solver.proofs.Laws.{refused-as}
-use Rattle.solver.proofs.refuse.Statement.{statement}
-use Rattle.solver.proofs.refuse.Tie as tie
+use Rattle.answers.proofs.Laws.{refused-as}
+use Rattle.answers.proofs.refuse.Statement.{statement}
+use Rattle.answers.proofs.refuse.Tie as tie
 
 returns : tie.Need-returns
 returns c = let p = c .before in refused-as _ _ _ _ (p .before .refusal-number .ensures) (p .refusal-place .ensures) (c .refused .ensures)
