@@ -1,9 +1,9 @@
--- `desk_steps::desk_start` meets its contract, for any sheet and any state. Assumes nothing.
+-- `desk_start::desk_start` meets its contract, for any sheet and any state. Assumes nothing.
 use mathlib.Core.Path.{ap, _∙_}
 use borrow.Author.Needs.{needs}
-use Rattle.desk_steps.specs.Steps.{begunOf}
-use Rattle.desk_steps.proofs.desk_start.Statement.{statement}
-use Rattle.desk_steps.proofs.desk_start.Tie as tie
+use Rattle.desk_start.specs.Begun.{begunOf}
+use Rattle.desk_start.proofs.desk_start.Statement.{statement}
+use Rattle.desk_start.proofs.desk_start.Tie as tie
 
 returns : tie.Need-returns
 unfolding begunOf

@@ -1,0 +1,2 @@
+-- The specs of `desk_start`.
+pub mod Begun
