@@ -2,6 +2,7 @@
 ghost use mathlib.Core.Path.{_≡_};
 ghost use Prim.Native.Nat.{_≤_};
 ghost use lib.ListN.{length};
+ghost use Rattle.power.specs.Tables.{powerTable};
 ghost use Rattle.sheet.specs.Read.{readOf};
 ghost use Rattle.entries.specs.Entries.{none};
 ghost use Rattle.answers.specs.Answers.{failedOf};
@@ -84,6 +85,7 @@ fn refuse_one(place: usize, judging: Judging, counts: &mut [u64], totals: &mut [
 fn solve_good(
     sheet: &[u8],
     l: Layout,
+    powers: &[u64; 1153],
     judging: Judging,
     heads: &mut [f64],
     demands: &mut [f64],
@@ -96,11 +98,22 @@ fn solve_good(
 )
     requires { ⌜ readOf (now sheet) ≡ Reading.Good l ⌝ }
     requires { ⌜ (widthOf judging ≤ length (now counts)) × (3 ≤ length (now totals)) ⌝ }
+    requires { ⌜ now powers ≡ powerTable ⌝ }
     ensures { λ _. ⌜ lends (now (heads .exit)) (now (demands .exit)) (now (flows .exit)) (now (statuses .exit)) (now (entries .exit)) (now (counts .exit)) (now (totals .exit)) (now (scratch .exit)) ≡ rowOf judging (now (sheet .entry)) (lends (now (heads .entry)) (now (demands .entry)) (now (flows .entry)) (now (statuses .entry)) (now (entries .entry)) (now (counts .entry)) (now (totals .entry)) (now (scratch .entry))) ⌝ }
 {
     match judging {
         Judging::Off => {
-            let a = solver::solve_read(sheet, l, heads, demands, flows, statuses, entries, scratch);
+            let a = solver::solve_read(
+                sheet,
+                l,
+                powers,
+                heads,
+                demands,
+                flows,
+                statuses,
+                entries,
+                scratch,
+            );
             put_counts(a, counts);
             put_totals(a, totals);
         }
@@ -108,6 +121,7 @@ fn solve_good(
             let s = sale::sell_read(
                 sheet,
                 l,
+                powers,
                 limits,
                 heads,
                 demands,
@@ -127,6 +141,7 @@ fn solve_good(
 pub fn solve_one(
     sheet: &[u8],
     l: Layout,
+    powers: &[u64; 1153],
     bad: Found,
     judging: Judging,
     heads: &mut [f64],
@@ -140,6 +155,7 @@ pub fn solve_one(
 )
     requires { ⌜ readOf (now sheet) ≡ unlessBad bad l ⌝ }
     requires { ⌜ (widthOf judging ≤ length (now counts)) × (3 ≤ length (now totals)) ⌝ }
+    requires { ⌜ now powers ≡ powerTable ⌝ }
     ensures { λ _. ⌜ lends (now (heads .exit)) (now (demands .exit)) (now (flows .exit)) (now (statuses .exit)) (now (entries .exit)) (now (counts .exit)) (now (totals .exit)) (now (scratch .exit)) ≡ rowOf judging (now (sheet .entry)) (lends (now (heads .entry)) (now (demands .entry)) (now (flows .entry)) (now (statuses .entry)) (now (entries .entry)) (now (counts .entry)) (now (totals .entry)) (now (scratch .entry))) ⌝ }
 {
     match bad {
@@ -147,6 +163,7 @@ pub fn solve_one(
         Found::Nothing => solve_good(
             sheet,
             l,
+            powers,
             judging,
             heads,
             demands,

@@ -2,6 +2,7 @@
 ghost use mathlib.Core.Path.{_≡_};
 ghost use Prim.Native.Nat.{_+_, _*_, _≤_, _<_};
 ghost use lib.ListN.{length};
+ghost use Rattle.power.specs.Tables.{powerTable};
 ghost use Rattle.sheet.specs.Read.{readOf};
 ghost use Rattle.solver.specs.Solve.{trialsOf};
 ghost use Rattle.rowwise.specs.Rooms.{lends, lengthsOf, Fits};
@@ -19,6 +20,7 @@ use sheet::Reading;
 fn solve_row(
     sheet: &[u8],
     l: Layout,
+    powers: &[u64; 1153],
     trials: usize,
     judging: Judging,
     r: usize,
@@ -37,6 +39,7 @@ fn solve_row(
     requires { ⌜ trials ≡ trialsOf (now sheet) ⌝ }
     requires { ⌜ length (now copy) ≡ length (now sheet) ⌝ }
     requires { ⌜ Fits l trials (widthOf judging) (r + 1) (lengthsOf (now table) (lends (now heads) (now demands) (now flows) (now statuses) (now entries) (now counts) (now totals) (now scratch))) ⌝ }
+    requires { ⌜ now powers ≡ powerTable ⌝ }
     ensures { λ _. ⌜ lends (now (heads .exit)) (now (demands .exit)) (now (flows .exit)) (now (statuses .exit)) (now (entries .exit)) (now (counts .exit)) (now (totals .exit)) (now (scratch .exit)) ≡ rowDone judging (now (sheet .entry)) l (now (table .entry)) r (lends (now (heads .entry)) (now (demands .entry)) (now (flows .entry)) (now (statuses .entry)) (now (entries .entry)) (now (counts .entry)) (now (totals .entry)) (now (scratch .entry))) ⌝ }
 {
     let wide = width(judging);
@@ -56,6 +59,7 @@ fn solve_row(
     solve_one(
         copy,
         l,
+        powers,
         bad,
         judging,
         &mut heads[n..n2],
@@ -72,6 +76,7 @@ fn solve_row(
 fn solve_rows(
     sheet: &[u8],
     l: Layout,
+    powers: &[u64; 1153],
     trials: usize,
     judging: Judging,
     rows: usize,
@@ -90,12 +95,14 @@ fn solve_rows(
     requires { ⌜ trials ≡ trialsOf (now sheet) ⌝ }
     requires { ⌜ length (now copy) ≡ length (now sheet) ⌝ }
     requires { ⌜ Fits l trials (widthOf judging) rows (lengthsOf (now table) (lends (now heads) (now demands) (now flows) (now statuses) (now entries) (now counts) (now totals) (now scratch))) ⌝ }
+    requires { ⌜ now powers ≡ powerTable ⌝ }
     ensures { λ _. ⌜ lends (now (heads .exit)) (now (demands .exit)) (now (flows .exit)) (now (statuses .exit)) (now (entries .exit)) (now (counts .exit)) (now (totals .exit)) (now (scratch .exit)) ≡ rowsDone judging (now (sheet .entry)) l (now (table .entry)) rows (lends (now (heads .entry)) (now (demands .entry)) (now (flows .entry)) (now (statuses .entry)) (now (entries .entry)) (now (counts .entry)) (now (totals .entry)) (now (scratch .entry))) ⌝ }
 {
     for r in 0..rows {
         solve_row(
             sheet,
             l,
+            powers,
             trials,
             judging,
             r,
@@ -158,11 +165,13 @@ pub fn solve_evening(
             if called.number != 0 {
                 return called;
             }
+            let powers = power::power_table();
             let size = sheet.len();
             let mut copy = [0u8; 9199];
             solve_rows(
                 sheet,
                 l,
+                &powers,
                 trials,
                 judging,
                 rows,

@@ -2,6 +2,7 @@
 ghost use mathlib.Core.Path.{_≡_};
 ghost use Prim.Native.Nat.{_≤_};
 ghost use lib.ListN.{length};
+ghost use Rattle.power.specs.Tables.{powerTable};
 ghost use Rattle.state.specs.Network.{Network};
 ghost use Rattle.sale.specs.Sale.{Ample, toldOf, flowsTold, judgeOf};
 use found::Found;
@@ -31,6 +32,7 @@ fn told(found: Found, number: usize, next: Verdict) -> Verdict
 fn tell_flows(
     sheet: &[u8],
     l: Layout,
+    table: &[u64; 1153],
     limits: Limits,
     heads: &[f64],
     demands: &[f64],
@@ -40,14 +42,14 @@ fn tell_flows(
 ) -> Verdict
     requires { ⌜ Network l (now sheet) ⌝ }
     requires { ⌜ (l .nodes ≤ length (now heads)) × ((l .nodes ≤ length (now demands)) × ((l .links ≤ length (now flows)) × (l .links ≤ length (now statuses)))) ⌝ }
+    requires { ⌜ now table ≡ powerTable ⌝ }
     ensures { λ r. ⌜ r ≡ flowsTold (now (sheet .entry)) l limits (now (heads .entry)) (now (demands .entry)) (now (flows .entry)) (now (statuses .entry)) next ⌝ }
 {
     let mut sums = [0.0f64; 64];
     let mut excess = [0.0f64; 64];
-    let table = power::power_table();
     excess::imbalance(sheet, l, demands, flows, &mut sums);
     excess::excess_flows(sheet, l, demands, flows, &mut excess);
-    let unsettled = link_laws::unsettled(sheet, l, &table, heads, flows, statuses, &excess, limits);
+    let unsettled = link_laws::unsettled(sheet, l, table, heads, flows, statuses, &excess, limits);
     let behind = told(unsettled, 5, next);
     let unbalanced = balances::unbalanced(sheet, l, &sums, limits.flow);
     told(unbalanced, 4, behind)
@@ -57,6 +59,7 @@ fn tell_flows(
 pub fn judge(
     sheet: &[u8],
     l: Layout,
+    table: &[u64; 1153],
     limits: Limits,
     trials: usize,
     heads: &[f64],
@@ -67,6 +70,7 @@ pub fn judge(
 ) -> Verdict
     requires { ⌜ Network l (now sheet) ⌝ }
     requires { ⌜ Ample l trials (now heads) (now demands) (now flows) (now statuses) (now entries) ⌝ }
+    requires { ⌜ now table ≡ powerTable ⌝ }
     ensures { λ r. ⌜ r ≡ judgeOf (now (sheet .entry)) l limits trials (now (heads .entry)) (now (demands .entry)) (now (flows .entry)) (now (statuses .entry)) (now (entries .entry)) ⌝ }
 {
     let low = pressures_low::low(sheet, l, heads, limits.pressure);
@@ -82,7 +86,17 @@ pub fn judge(
     let seventh = told(ill, 7, eighth);
     let unheld = held_heads::unheld(sheet, l, heads, statuses, limits.head);
     let sixth = told(unheld, 6, seventh);
-    let fourth = tell_flows(sheet, l, limits, heads, demands, flows, statuses, sixth);
+    let fourth = tell_flows(
+        sheet,
+        l,
+        table,
+        limits,
+        heads,
+        demands,
+        flows,
+        statuses,
+        sixth,
+    );
     let undetermined = determined::undetermined(sheet, l, flows, statuses);
     let third = told(undetermined, 3, fourth);
     told(repairs_shown::repair_shown(entries, trials), 2, third)

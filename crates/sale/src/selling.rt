@@ -2,6 +2,7 @@
 ghost use mathlib.Core.Path.{_≡_};
 ghost use mathlib.Core.List.{List};
 ghost use lib.Ieee.{Float};
+ghost use Rattle.power.specs.Tables.{powerTable};
 ghost use Rattle.sheet.specs.Read.{readOf};
 ghost use Rattle.answers.specs.Answers.{lent};
 ghost use Rattle.sale.specs.Sale.{Backed, verdictBy, saleOf};
@@ -32,6 +33,7 @@ fn unsold(number: usize) -> Verdict
 fn decide(
     sheet: &[u8],
     l: Layout,
+    table: &[u64; 1153],
     limits: Limits,
     answer: Answer,
     heads: &[f64],
@@ -42,6 +44,7 @@ fn decide(
 ) -> Verdict
     requires { ⌜ readOf (now sheet) ≡ Reading.Good l ⌝ }
     requires { ⌜ Backed (now sheet) answer (now heads) (now demands) (now flows) (now statuses) (now entries) ⌝ }
+    requires { ⌜ now table ≡ powerTable ⌝ }
     ensures { λ r. ⌜ ((scratch : List Float) → r ≡ verdictBy (now (sheet .entry)) limits (record { answer = answer; lent = lent (now (heads .entry)) (now (demands .entry)) (now (flows .entry)) (now (statuses .entry)) (now (entries .entry)) scratch }) (Reading.Good l)) ⌝ }
 {
     if answer.number != 0 {
@@ -50,6 +53,7 @@ fn decide(
     judge(
         sheet,
         l,
+        table,
         limits,
         answer.trials,
         heads,
@@ -64,6 +68,7 @@ fn decide(
 pub fn sell_read(
     sheet: &[u8],
     l: Layout,
+    table: &[u64; 1153],
     limits: Limits,
     heads: &mut [f64],
     demands: &mut [f64],
@@ -73,12 +78,24 @@ pub fn sell_read(
     scratch: &mut [f64],
 ) -> Sold
     requires { ⌜ readOf (now sheet) ≡ Reading.Good l ⌝ }
+    requires { ⌜ now table ≡ powerTable ⌝ }
     ensures { λ r. ⌜ record { answer = r .answer; verdict = r .verdict; lent = lent (now (heads .exit)) (now (demands .exit)) (now (flows .exit)) (now (statuses .exit)) (now (entries .exit)) (now (scratch .exit)) } ≡ saleOf (now (sheet .entry)) limits (lent (now (heads .entry)) (now (demands .entry)) (now (flows .entry)) (now (statuses .entry)) (now (entries .entry)) (now (scratch .entry))) ⌝ }
 {
-    let answer = solver::solve_read(sheet, l, heads, demands, flows, statuses, entries, scratch);
+    let answer = solver::solve_read(
+        sheet,
+        l,
+        table,
+        heads,
+        demands,
+        flows,
+        statuses,
+        entries,
+        scratch,
+    );
     let verdict = decide(
         sheet,
         l,
+        table,
         limits,
         answer,
         heads,
@@ -115,16 +132,20 @@ pub fn sell(
                 verdict: verdict,
             }
         }
-        Reading::Good(l) => sell_read(
-            sheet,
-            l,
-            limits,
-            heads,
-            demands,
-            flows,
-            statuses,
-            entries,
-            scratch,
-        ),
+        Reading::Good(l) => {
+            let table = power::power_table();
+            sell_read(
+                sheet,
+                l,
+                &table,
+                limits,
+                heads,
+                demands,
+                flows,
+                statuses,
+                entries,
+                scratch,
+            )
+        }
     }
 }

@@ -2,6 +2,7 @@
 ghost use mathlib.Core.Path.{_≡_};
 ghost use Prim.Native.Nat.{_*_, _≤_};
 ghost use lib.ListN.{length};
+ghost use Rattle.power.specs.Tables.{powerTable};
 ghost use Rattle.sheet.specs.Read.{readOf};
 ghost use Rattle.state.specs.State.{state};
 ghost use Rattle.answers.specs.Answers.{lent, Enough};
@@ -14,10 +15,12 @@ use layout::Layout;
 use runs::Ran;
 use sheet::Reading;
 
-// The run of a sheet that was read, from its first columns.
+// The run of a sheet that was read, from its first columns. The power's table is lent down to here: it
+// is built where the sheet was read, once for many solves.
 fn run(
     sheet: &[u8],
     l: Layout,
+    table: &[u64; 1153],
     trials: usize,
     h: &mut [f64],
     d: &mut [f64],
@@ -33,13 +36,13 @@ fn run(
     requires { ⌜ state (now h) (now d) (now f) (now q) (now c) (now z) ≡ startOf (now sheet) l ⌝ }
     requires { ⌜ Room l (state (now h) (now d) (now f) (now q) (now c) (now z)) ⌝ }
     requires { ⌜ (4 * trials ≤ length (now entries)) × (4096 ≤ length (now scratch)) ⌝ }
+    requires { ⌜ now table ≡ powerTable ⌝ }
     ensures state { λ r. ⌜ record { ran = r; bytes = now (entries .exit); state = state (now (h .exit)) (now (d .exit)) (now (f .exit)) (now (q .exit)) (now (c .exit)) (now (z .exit)) } ≡ runOf repairOf (now (sheet .entry)) l (now (entries .entry)) ⌝ }
     ensures emptied { λ _. ⌜ now (scratch .exit) ≡ emptied (now (scratch .entry)) ⌝ }
 {
     let mut unknowns = [0usize; 64];
     let mut places = [0usize; 65];
     let mut listed = [0usize; 256];
-    let table = power::power_table();
     numbering::number_unknowns(sheet, l, &mut unknowns);
     links_at::list_at_nodes(sheet, l, &mut places, &mut listed);
     runs::run_trials(
@@ -49,7 +52,7 @@ fn run(
         &unknowns,
         &places,
         &listed,
-        &table,
+        table,
         h,
         d,
         f,
@@ -66,6 +69,7 @@ fn run(
 fn solved(
     sheet: &[u8],
     l: Layout,
+    table: &[u64; 1153],
     trials: usize,
     heads: &mut [f64],
     demands: &mut [f64],
@@ -77,6 +81,7 @@ fn solved(
     requires { ⌜ readOf (now sheet) ≡ Reading.Good l ⌝ }
     requires { ⌜ trials ≡ trialsOf (now sheet) ⌝ }
     requires { ⌜ Enough l trials (lent (now heads) (now demands) (now flows) (now statuses) (now entries) (now scratch)) ⌝ }
+    requires { ⌜ now table ≡ powerTable ⌝ }
     ensures { λ r. ⌜ record { answer = r; lent = lent (now (heads .exit)) (now (demands .exit)) (now (flows .exit)) (now (statuses .exit)) (now (entries .exit)) (now (scratch .exit)) } ≡ solvedWith repairOf (now (sheet .entry)) l (lent (now (heads .entry)) (now (demands .entry)) (now (flows .entry)) (now (statuses .entry)) (now (entries .entry)) (now (scratch .entry))) ⌝ }
 {
     let mut h = [0.0f64; 64];
@@ -89,6 +94,7 @@ fn solved(
     let ran = run(
         sheet,
         l,
+        table,
         trials,
         &mut h,
         &mut d,
@@ -123,6 +129,7 @@ fn solved(
 pub fn solve_read(
     sheet: &[u8],
     l: Layout,
+    table: &[u64; 1153],
     heads: &mut [f64],
     demands: &mut [f64],
     flows: &mut [f64],
@@ -131,6 +138,7 @@ pub fn solve_read(
     scratch: &mut [f64],
 ) -> Answer
     requires { ⌜ readOf (now sheet) ≡ Reading.Good l ⌝ }
+    requires { ⌜ now table ≡ powerTable ⌝ }
     ensures { λ r. ⌜ record { answer = r; lent = lent (now (heads .exit)) (now (demands .exit)) (now (flows .exit)) (now (statuses .exit)) (now (entries .exit)) (now (scratch .exit)) } ≡ afterRead repairOf (now (sheet .entry)) (lent (now (heads .entry)) (now (demands .entry)) (now (flows .entry)) (now (statuses .entry)) (now (entries .entry)) (now (scratch .entry))) (Reading.Good l) ⌝ }
 {
     let options = records::options_of(sheet);
@@ -149,6 +157,7 @@ pub fn solve_read(
         Found::Nothing => solved(
             sheet,
             l,
+            table,
             trials,
             heads,
             demands,
@@ -173,6 +182,19 @@ pub fn solve(
 {
     match sheet::read(sheet) {
         Reading::Refused(r) => answers::refuse(r),
-        Reading::Good(l) => solve_read(sheet, l, heads, demands, flows, statuses, entries, scratch),
+        Reading::Good(l) => {
+            let table = power::power_table();
+            solve_read(
+                sheet,
+                l,
+                &table,
+                heads,
+                demands,
+                flows,
+                statuses,
+                entries,
+                scratch,
+            )
+        }
     }
 }

@@ -15,16 +15,16 @@ use Rattle.solver.proofs.run.Tie as tie
 
 -- the places, each from the one after it
 abbrev start-of : tie.After-number-unknowns → tie.Start
-start-of n = n .before .before .before .before .before .before .before .before .before .before .before .before
+start-of n = n .before .before .before .before .before .before .before .before .before .before .before
 
 abbrev unknowns-of : tie.After-list-at-nodes → tie.After-number-unknowns
 unknowns-of m = m .before .before .before .before
 
 abbrev listed-of : tie.After-run-trials → tie.After-list-at-nodes
-listed-of r = r .before .before .before .before .before .before .before .before .before .before .before .before .before .before .before
+listed-of r = r .before .before .before .before .before .before .before .before .before .before .before .before .before .before
 
 number-unknowns-requires : tie.Need-number-unknowns-requires
-number-unknowns-requires c κs = let net = network-of _ _ (c .before .before .before .before .before .before .before .before .before .before .before .pre .0) in (net .laid, omega (arith, net .nodes))
+number-unknowns-requires c κs = let net = network-of _ _ (c .before .before .before .before .before .before .before .before .before .before .pre .0) in (net .laid, omega (arith, net .nodes))
 
 list-at-nodes-requires : tie.Need-list-at-nodes-requires
 list-at-nodes-requires c κs =
@@ -33,16 +33,16 @@ list-at-nodes-requires c κs =
     (net .laid, (joined-of _ _ read, omega (arith, net .nodes, net .links)))
 
 slice-relend-prefix-run-trials : tie.Need-slice-relend-prefix-run-trials
-slice-relend-prefix-run-trials c = start-of (unknowns-of (c .before .before .before .before .before .before .before .before .before .before .before .before .before)) .pre .1 .1 .1 .1 .1
+slice-relend-prefix-run-trials c = start-of (unknowns-of (c .before .before .before .before .before .before .before .before .before .before .before .before)) .pre .1 .1 .1 .1 .0 .1
 
 slice-aggregate-run-trials-4 : tie.Need-slice-aggregate-run-trials-4
 slice-aggregate-run-trials-4 c =
-    let start = start-of (unknowns-of (c .before .before .before .before .before .before .before .before .before .before .before .before .before .before)) in
-    sym (length-take-le 4096 (start .args .scratch .now) (start .pre .1 .1 .1 .1 .1))
+    let start = start-of (unknowns-of (c .before .before .before .before .before .before .before .before .before .before .before .before .before)) in
+    sym (length-take-le 4096 (start .args .scratch .now) (start .pre .1 .1 .1 .1 .0 .1))
 
 run-trials-requires : tie.Need-run-trials-requires
 run-trials-requires c κs =
-    let m = c .before .before .before .before .before .before .before .before .before .before .before .before .before .before in
+    let m = c .before .before .before .before .before .before .before .before .before .before .before .before .before in
     let n = unknowns-of m in
     let start = start-of n in
     let v = start .args in
@@ -57,7 +57,7 @@ run-trials-requires c κs =
             omega (arith, net .nodes, n .number-unknowns .kept),
             subst (λ (x : List ℕ). RowsRight (v .l) (v .sheet .now) x) (sym (n .number-unknowns .ensures)) (rows-right (v .sheet .now) (v .l) _ (omega (arith, net .nodes)) (omega (arith, net .nodes))),
           ),
-          (n .before .before .power-table .ensures, (room .0, (omega (arith, few, start .pre .1 .0), (room .1 .0, length-take-le 4096 (v .scratch .now) (room .1 .1))))),
+          (room .1 .1, (room .0, (omega (arith, few, start .pre .1 .0), (room .1 .0 .0, length-take-le 4096 (v .scratch .now) (room .1 .0 .1))))),
         ),
       ),
     )
@@ -73,7 +73,6 @@ pub run-spec : {M : Type 1} → statement M
 run-spec =
     tie.close
     (tie.spec
-    (λ c κs. search needs)
     (λ c. search needs)
     number-unknowns-requires
     (λ c. search needs)

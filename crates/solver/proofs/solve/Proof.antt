@@ -18,7 +18,10 @@ enum-known-l : tie.Need-enum-known-l
 enum-known-l c = search needs
 
 solve-read-requires : tie.Need-solve-read-requires
-solve-read-requires c κs = let m = c .before .before .before .before .before .before .before in sym (m .before .before .read .ensures) ∙ m .l .given .1
+solve-read-requires c κs =
+    let p = c .before .before .before .before .before .before .before in
+    let m = p .before .before in
+    (sym (m .before .before .read .ensures) ∙ m .l .given .1, p .power-table .ensures)
 
 returns : tie.Need-returns
 returns c = let m = c .before .before in solve-refused _ _ _ _ (m .before .before .read .ensures) _ _ (m .r .given .1) (c .refuse .ensures)
@@ -44,7 +47,7 @@ same-length-6 c = search needs
 returns-2 : tie.Need-returns-2
 returns-2 c =
     let v = c .before .before .before .before .before .before .before .before .before .before .before .before in
-    let m = v .before .before .before .before .before .before .before .before in
+    let m = v .before .before .before .before .before .before .before .before .before .before in
     solve-good _ _ _ _ (m .before .before .read .ensures) _ _ (m .l .given .1) (v .solve-read .ensures)
 
 pub solve-spec : {M : Type 1} → statement M
@@ -55,6 +58,7 @@ solve-spec =
     enum-known-r
     refuse-requires
     enum-known-l
+    (λ c κs. search needs)
     solve-read-requires
     returns
     same-length

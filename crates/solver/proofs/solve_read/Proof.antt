@@ -14,10 +14,10 @@ abbrev start-of : tie.After-options-of → tie.Start
 start-of o = o .before .before .before .before .before .before .before .before
 
 options-of-requires : tie.Need-options-of-requires
-options-of-requires c κs = options-within _ _ (network-of _ _ (c .before .before .before .before .before .before .before .pre) .laid)
+options-of-requires c κs = options-within _ _ (network-of _ _ (c .before .before .before .before .before .before .before .pre .0) .laid)
 
 too-short-requires : tie.Need-too-short-requires
-too-short-requires c κs = omega (arith, few-trials _ _ (start-of c .pre), ap (λ (o : Options). o .trials) (c .options-of .ensures))
+too-short-requires c κs = omega (arith, few-trials _ _ (start-of c .pre .0), ap (λ (o : Options). o .trials) (c .options-of .ensures))
 
 enum-known-place : tie.Need-enum-known-place
 enum-known-place c = search needs
@@ -33,7 +33,7 @@ solved-requires c κs =
     let e = c .before .before .before .before .before .before in
     let h = e .before .before in
     let o = h .before in
-    (start-of o .pre, (ap (λ (x : Options). x .trials) (o .options-of .ensures), enough _ _ _ (sym (h .too-short .ensures) ∙ e .enum-told .given .1)))
+    (start-of o .pre .0, (ap (λ (x : Options). x .trials) (o .options-of .ensures), (enough _ _ _ (sym (h .too-short .ensures) ∙ e .enum-told .given .1), start-of o .pre .1)))
 
 returns : tie.Need-returns
 returns c =

@@ -55,7 +55,7 @@ run-requires c κs =
     let start = begin-of s in
     let net = network-of _ _ (start .pre .0) in
     let k = full-of s in
-    let e = start .pre .1 .1 in (
+    let e = start .pre .1 .1 .0 in (
       start .pre .0,
       (
         start .pre .1 .0,
@@ -70,7 +70,7 @@ run-requires c κs =
               statuses = omega (arith, net .links, k .statuses);
               grounded = omega (arith, net .nodes);
             },
-            (e .entries, e .scratch),
+            ((e .entries, e .scratch), start .pre .1 .1 .1),
           ),
         ),
       ),
@@ -82,8 +82,8 @@ conclude-requires c κs =
     let s = columns-of r in
     let start = begin-of s in
     let net = network-of _ _ (start .pre .0) in
-    let e = start .pre .1 .1 in
-    let u = r .run .kept .1 .1 .1 in
+    let e = start .pre .1 .1 .0 in
+    let u = r .run .kept .1 .1 .1 .1 in
     let k = full-of s in (
       net .laid,
       (
@@ -108,15 +108,15 @@ returns c =
     let start = begin-of (columns-of r) in
     let a = start .args in
     let w = o .conclude .last .1 .1 .1 .1 .1 .1 .1 .1 .1 .1 in
-    let z = r .run .last .1 .1 .1 .1 .1 .1 .1 .1 in
+    let z = r .run .last .1 .1 .1 .1 .1 .1 .1 .1 .1 in
     let out : List Float → Solved = λ x. record { answer = o .conclude .result; lent = lent (w .0) (w .1 .0) (w .1 .1 .0) (w .1 .1 .1 .0) (z .1 .0) x } in
     solved-of repairOf (a .sheet .now) (a .l) (a .trials) (lent (a .heads .now) (a .demands .now) (a .flows .now) (a .statuses .now) (a .entries .now) (a .scratch .now)) _ _ (start .pre .1 .0) (r .run .ensures .0) (ap out (r .run .ensures .1) ∙ o .conclude .ensures (z .0) (z .1 .0) (a .entries .now) (a .scratch .now))
 
 same-length-5 : tie.Need-same-length-5
-same-length-5 c = run-of (c .before .before .before .before .before .before .before .before) .run .kept .1 .1 .1 .1 .1 .1 .1 .1 .1 .0
+same-length-5 c = run-of (c .before .before .before .before .before .before .before .before) .run .kept .1 .1 .1 .1 .1 .1 .1 .1 .1 .1 .0
 
 same-length-6 : tie.Need-same-length-6
-same-length-6 c = run-of (c .before .before .before .before .before .before .before .before) .run .kept .1 .1 .1 .1 .1 .1 .1 .1 .1 .1 .0
+same-length-6 c = run-of (c .before .before .before .before .before .before .before .before) .run .kept .1 .1 .1 .1 .1 .1 .1 .1 .1 .1 .1 .0
 
 pub solved-spec : {M : Type 1} → statement M
 solved-spec =

@@ -15,23 +15,23 @@ abbrev start-of-sale : tie.After-sell-read → tie.Start
 start-of-sale v = v .before .before .before .before .before .before .before .before .before .before .before .before .before .before .before .before .before .before .before
 
 put-counts-requires : tie.Need-put-counts-requires
-put-counts-requires c κs = let start = start-of (c .before .before .before .before .before .before .before .before .before .before .before .before .before) in omega (arith, start .pre .1 .0, wide (start .args .judging))
+put-counts-requires c κs = let start = start-of (c .before .before .before .before .before .before .before .before .before .before .before .before .before) in omega (arith, start .pre .1 .0 .0, wide (start .args .judging))
 
 put-totals-requires : tie.Need-put-totals-requires
-put-totals-requires c κs = start-of (c .before .before .before .before .before .before .before .before .before .before .before .before .before .before .before .before .before) .pre .1 .1
+put-totals-requires c κs = start-of (c .before .before .before .before .before .before .before .before .before .before .before .before .before .before .before .before .before) .pre .1 .0 .1
 
 put-counts-requires-2 : tie.Need-put-counts-requires-2
-put-counts-requires-2 c κs = let start = start-of-sale (c .before .before .before .before .before .before .before .before .before .before .before .before .before) in omega (arith, start .pre .1 .0, wide (start .args .judging))
+put-counts-requires-2 c κs = let start = start-of-sale (c .before .before .before .before .before .before .before .before .before .before .before .before .before) in omega (arith, start .pre .1 .0 .0, wide (start .args .judging))
 
 put-totals-requires-2 : tie.Need-put-totals-requires-2
-put-totals-requires-2 c κs = start-of-sale (c .before .before .before .before .before .before .before .before .before .before .before .before .before .before .before .before .before) .pre .1 .1
+put-totals-requires-2 c κs = start-of-sale (c .before .before .before .before .before .before .before .before .before .before .before .before .before .before .before .before .before) .pre .1 .0 .1
 
 put-verdict-requires : tie.Need-put-verdict-requires
 put-verdict-requires c κs =
     let n = c .before .before .before .before .before .before .before in
     let v = n .before .before .before .before .before .before .before .before .before .before .before .before .before .before in
     let start = start-of-sale v in
-    omega (arith, start .pre .1 .0, n .put-counts2 .kept, wide-by (start .args .judging) _ (v .before .before .before .before .before .before .before .before .judging .given .1))
+    omega (arith, start .pre .1 .0 .0, n .put-counts2 .kept, wide-by (start .args .judging) _ (v .before .before .before .before .before .before .before .before .judging .given .1))
 
 returns : tie.Need-returns
 returns c =

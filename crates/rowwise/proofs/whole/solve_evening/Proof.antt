@@ -50,19 +50,20 @@ returns c =
 
 array-borrow-prefix-copy : tie.Need-array-borrow-prefix-copy
 array-borrow-prefix-copy c =
-    let o = c .before .before .before .before .before .before .before .before .before .before .before .before in
+    let o = c .before .before .before .before .before .before .before .before .before .before .before .before .before .before in
     few-bytes _ _ (sym (o .before .before .before .before .read .ensures) ∙ o .before .before .l .given .1)
 
 slice-aggregate-solve-rows : tie.Need-slice-aggregate-solve-rows
 slice-aggregate-solve-rows c =
-    let o = c .before .before .before .before .before .before .before .before .before .before .before .before .before in
+    let o = c .before .before .before .before .before .before .before .before .before .before .before .before .before .before .before in
     let m = o .before .before .before .before in
     let s = start-of m .args .sheet .now in
     sym (length-take-le (length s) (replicate 9199 0) (within-copy s (few-bytes _ _ (sym (m .read .ensures) ∙ o .before .before .l .given .1))))
 
 solve-rows-requires : tie.Need-solve-rows-requires
 solve-rows-requires c κs =
-    let i = c .before .before .before .before .before .before .before .before .before in
+    let p = c .before .before .before .before .before .before .before .before .before .before in
+    let i = p .before in
     let d = i .before .before in
     let w = d .before in
     let o = w .before in
@@ -75,7 +76,7 @@ solve-rows-requires c κs =
         ap (λ (x : Options). x .trials) (o .options-of .ensures),
         (
           length-take-le (length (a .sheet .now)) (replicate 9199 0) (within-copy (a .sheet .now) (few-bytes _ _ good)),
-          fits-admitted (a .judging) _ _ _ (a .rows) _ _ (w .width .ensures) (d .admitted .ensures) (i .if1 .left),
+          (fits-admitted (a .judging) _ _ _ (a .rows) _ _ (w .width .ensures) (d .admitted .ensures) (i .if1 .left), p .power-table .ensures),
         ),
       ),
     )
@@ -91,7 +92,7 @@ returns-2 c =
 returns-3 : tie.Need-returns-3
 returns-3 c =
     let v = c .before .before .before .before .before .before .before .before .before .before .before .before .before .before .before .before .before in
-    let i = v .before .before .before .before .before .before .before .before .before .before in
+    let i = v .before .before .before .before .before .before .before .before .before .before .before .before in
     let d = i .before .before in
     let w = d .before in
     let o = w .before in
@@ -101,28 +102,28 @@ returns-3 c =
     evening-done (a .judging) (a .sheet .now) (a .rows) (a .table .now) (lent-of start) _ (m .read .ensures) _ _ _ _ (o .before .before .l .given .1) (ap (λ (x : Options). x .trials) (o .options-of .ensures)) (w .width .ensures) (d .admitted .ensures) _ (eq-eqb _ _ (i .if1 .left)) (v .solve-rows .ensures)
 
 same-length : tie.Need-same-length
-same-length c = c .before .before .before .before .before .before .before .before .before .before .before .before .before .before .before .before .before .solve-rows .kept .1 .1 .1 .1 .1 .1 .0
+same-length c = c .before .before .before .before .before .before .before .before .before .before .before .before .before .before .before .before .before .solve-rows .kept .1 .1 .1 .1 .1 .1 .1 .0
 
 same-length-2 : tie.Need-same-length-2
-same-length-2 c = c .before .before .before .before .before .before .before .before .before .before .before .before .before .before .before .before .before .solve-rows .kept .1 .1 .1 .1 .1 .1 .1 .0
+same-length-2 c = c .before .before .before .before .before .before .before .before .before .before .before .before .before .before .before .before .before .solve-rows .kept .1 .1 .1 .1 .1 .1 .1 .1 .0
 
 same-length-3 : tie.Need-same-length-3
-same-length-3 c = c .before .before .before .before .before .before .before .before .before .before .before .before .before .before .before .before .before .solve-rows .kept .1 .1 .1 .1 .1 .1 .1 .1 .0
+same-length-3 c = c .before .before .before .before .before .before .before .before .before .before .before .before .before .before .before .before .before .solve-rows .kept .1 .1 .1 .1 .1 .1 .1 .1 .1 .0
 
 same-length-4 : tie.Need-same-length-4
-same-length-4 c = c .before .before .before .before .before .before .before .before .before .before .before .before .before .before .before .before .before .solve-rows .kept .1 .1 .1 .1 .1 .1 .1 .1 .1 .0
+same-length-4 c = c .before .before .before .before .before .before .before .before .before .before .before .before .before .before .before .before .before .solve-rows .kept .1 .1 .1 .1 .1 .1 .1 .1 .1 .1 .0
 
 same-length-5 : tie.Need-same-length-5
-same-length-5 c = c .before .before .before .before .before .before .before .before .before .before .before .before .before .before .before .before .before .solve-rows .kept .1 .1 .1 .1 .1 .1 .1 .1 .1 .1 .0
+same-length-5 c = c .before .before .before .before .before .before .before .before .before .before .before .before .before .before .before .before .before .solve-rows .kept .1 .1 .1 .1 .1 .1 .1 .1 .1 .1 .1 .0
 
 same-length-6 : tie.Need-same-length-6
-same-length-6 c = c .before .before .before .before .before .before .before .before .before .before .before .before .before .before .before .before .before .solve-rows .kept .1 .1 .1 .1 .1 .1 .1 .1 .1 .1 .1 .0
+same-length-6 c = c .before .before .before .before .before .before .before .before .before .before .before .before .before .before .before .before .before .solve-rows .kept .1 .1 .1 .1 .1 .1 .1 .1 .1 .1 .1 .1 .0
 
 same-length-7 : tie.Need-same-length-7
-same-length-7 c = c .before .before .before .before .before .before .before .before .before .before .before .before .before .before .before .before .before .solve-rows .kept .1 .1 .1 .1 .1 .1 .1 .1 .1 .1 .1 .1 .0
+same-length-7 c = c .before .before .before .before .before .before .before .before .before .before .before .before .before .before .before .before .before .solve-rows .kept .1 .1 .1 .1 .1 .1 .1 .1 .1 .1 .1 .1 .1 .0
 
 same-length-8 : tie.Need-same-length-8
-same-length-8 c = c .before .before .before .before .before .before .before .before .before .before .before .before .before .before .before .before .before .solve-rows .kept .1 .1 .1 .1 .1 .1 .1 .1 .1 .1 .1 .1 .1 .0
+same-length-8 c = c .before .before .before .before .before .before .before .before .before .before .before .before .before .before .before .before .before .solve-rows .kept .1 .1 .1 .1 .1 .1 .1 .1 .1 .1 .1 .1 .1 .1 .0
 
 pub solve-evening-spec : {M : Type 1} → statement M
 solve-evening-spec =
@@ -137,6 +138,7 @@ solve-evening-spec =
     (λ c κs. search needs)
     admitted-requires
     returns
+    (λ c κs. search needs)
     array-borrow-prefix-copy
     slice-aggregate-solve-rows
     solve-rows-requires

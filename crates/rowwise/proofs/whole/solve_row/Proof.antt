@@ -38,7 +38,7 @@ rooms w =
     let a = start .args in
     let net = network-of _ _ (start .pre .0) in
     ends (a .l) (a .trials) (w .width .result) (a .r) _
-    (subst (λ (k : ℕ). Fits (a .l) (a .trials) k (a .r + 1) (lengthsOf (a .table .now) (lent-of start))) (sym (w .width .ensures)) (start .pre .1 .1 .1)) (net .nodes) (net .links)
+    (subst (λ (k : ℕ). Fits (a .l) (a .trials) k (a .r + 1) (lengthsOf (a .table .now) (lent-of start))) (sym (w .width .ensures)) (start .pre .1 .1 .1 .0)) (net .nodes) (net .links)
     (omega (arith, few-trials _ _ (start .pre .0), start .pre .1 .0)) (omega (arith, w .width .ensures, few-counts (a .judging)))
 
 width-requires : tie.Need-width-requires
@@ -86,7 +86,7 @@ bad-demand-requires c κs =
     let start = start-of w in
     let a = start .args in
     let net = network-of _ _ (start .pre .0) in
-    (omega (arith, net .laid .nodes, few-bytes (a .sheet .now) (a .l) (start .pre .0)), (net .nodes, omega (arith, start .pre .1 .1 .1 .few), rooms w .table))
+    (omega (arith, net .laid .nodes, few-bytes (a .sheet .now) (a .l) (start .pre .0)), (net .nodes, omega (arith, start .pre .1 .1 .1 .0 .few), rooms w .table))
 
 copy-bytes-requires : tie.Need-copy-bytes-requires
 copy-bytes-requires c κs = let start = start-of (c .before .before .before .before .before .before) in (omega (arith, start .pre .1 .1 .0), omega arith)
@@ -99,7 +99,7 @@ put-row-requires c κs =
     let a = start .args in
     let net = network-of _ _ (start .pre .0) in
     let e : p .copy-bytes .last .0 ≡ a .sheet .now = p .copy-bytes .ensures ∙ whole-copy (a .sheet .now) (a .copy .now) (start .pre .1 .1 .0) in
-    (laid-long (a .l) (a .sheet .now) (p .copy-bytes .last .0) (ap length e) (net .laid), (net .nodes, omega (arith, start .pre .1 .1 .1 .few), rooms w .table))
+    (laid-long (a .l) (a .sheet .now) (p .copy-bytes .last .0) (ap length e) (net .laid), (net .nodes, omega (arith, start .pre .1 .1 .1 .0 .few), rooms w .table))
 
 mul-solve-one : tie.Need-mul-solve-one
 mul-solve-one c = omega (arith, rooms (c .before .before .before .before .before .before .before .before .before .before .before .before .before .before) .nodes)
@@ -188,8 +188,11 @@ solve-one-requires c κs =
     let k = copied-of p in (
       row-read (a .sheet .now) _ _ (a .l) (a .table .now) (a .r) _ (start .pre .0) (table-of w .shared-slice-known2 .given) (k .before .before .bad-demand .ensures) (k .copy-bytes .ensures ∙ whole-copy (a .sheet .now) (a .copy .now) (start .pre .1 .1 .0)) (p .put-row .ensures),
       (
-        omega (arith, w .width .ensures, part-long (a .r * w .width .result) (w .width .result) (a .counts .now) (rooms w .counts)),
-        omega (arith, part-long (a .r * 3) 3 (a .totals .now) (rooms w .totals)),
+        (
+          omega (arith, w .width .ensures, part-long (a .r * w .width .result) (w .width .result) (a .counts .now) (rooms w .counts)),
+          omega (arith, part-long (a .r * 3) 3 (a .totals .now) (rooms w .totals)),
+        ),
+        start .pre .1 .1 .1 .1,
       ),
     )
 
@@ -198,52 +201,52 @@ same-length c =
     let v = c .before .before .before .before .before .before .before .before .before .before .before .before .before .before .before .before in
     let w = width-of (copied-of (put-of v)) in
     let a = start-of w .args in
-    put-long (a .r * a .l .nodes) (a .l .nodes) (a .heads .now) (v .solve-one .last .1 .1 .1 .1 .0) (rooms w .heads) (v .solve-one .kept .1 .1 .1 .1 .0)
+    put-long (a .r * a .l .nodes) (a .l .nodes) (a .heads .now) (v .solve-one .last .1 .1 .1 .1 .1 .0) (rooms w .heads) (v .solve-one .kept .1 .1 .1 .1 .1 .0)
 
 same-length-2 : tie.Need-same-length-2
 same-length-2 c =
     let v = c .before .before .before .before .before .before .before .before .before .before .before .before .before .before .before .before in
     let w = width-of (copied-of (put-of v)) in
     let a = start-of w .args in
-    put-long (a .r * a .l .nodes) (a .l .nodes) (a .demands .now) (v .solve-one .last .1 .1 .1 .1 .1 .0) (rooms w .demands) (v .solve-one .kept .1 .1 .1 .1 .1 .0)
+    put-long (a .r * a .l .nodes) (a .l .nodes) (a .demands .now) (v .solve-one .last .1 .1 .1 .1 .1 .1 .0) (rooms w .demands) (v .solve-one .kept .1 .1 .1 .1 .1 .1 .0)
 
 same-length-3 : tie.Need-same-length-3
 same-length-3 c =
     let v = c .before .before .before .before .before .before .before .before .before .before .before .before .before .before .before .before in
     let w = width-of (copied-of (put-of v)) in
     let a = start-of w .args in
-    put-long (a .r * a .l .links) (a .l .links) (a .flows .now) (v .solve-one .last .1 .1 .1 .1 .1 .1 .0) (rooms w .flows) (v .solve-one .kept .1 .1 .1 .1 .1 .1 .0)
+    put-long (a .r * a .l .links) (a .l .links) (a .flows .now) (v .solve-one .last .1 .1 .1 .1 .1 .1 .1 .0) (rooms w .flows) (v .solve-one .kept .1 .1 .1 .1 .1 .1 .1 .0)
 
 same-length-4 : tie.Need-same-length-4
 same-length-4 c =
     let v = c .before .before .before .before .before .before .before .before .before .before .before .before .before .before .before .before in
     let w = width-of (copied-of (put-of v)) in
     let a = start-of w .args in
-    put-long (a .r * a .l .links) (a .l .links) (a .statuses .now) (v .solve-one .last .1 .1 .1 .1 .1 .1 .1 .0) (rooms w .statuses) (v .solve-one .kept .1 .1 .1 .1 .1 .1 .1 .0)
+    put-long (a .r * a .l .links) (a .l .links) (a .statuses .now) (v .solve-one .last .1 .1 .1 .1 .1 .1 .1 .1 .0) (rooms w .statuses) (v .solve-one .kept .1 .1 .1 .1 .1 .1 .1 .1 .0)
 
 same-length-5 : tie.Need-same-length-5
 same-length-5 c =
     let v = c .before .before .before .before .before .before .before .before .before .before .before .before .before .before .before .before in
     let w = width-of (copied-of (put-of v)) in
     let a = start-of w .args in
-    put-long (a .r * (4 * a .trials)) (4 * a .trials) (a .entries .now) (v .solve-one .last .1 .1 .1 .1 .1 .1 .1 .1 .0) (rooms w .entries) (v .solve-one .kept .1 .1 .1 .1 .1 .1 .1 .1 .0)
+    put-long (a .r * (4 * a .trials)) (4 * a .trials) (a .entries .now) (v .solve-one .last .1 .1 .1 .1 .1 .1 .1 .1 .1 .0) (rooms w .entries) (v .solve-one .kept .1 .1 .1 .1 .1 .1 .1 .1 .1 .0)
 
 same-length-6 : tie.Need-same-length-6
 same-length-6 c =
     let v = c .before .before .before .before .before .before .before .before .before .before .before .before .before .before .before .before in
     let w = width-of (copied-of (put-of v)) in
     let a = start-of w .args in
-    put-long (a .r * w .width .result) (w .width .result) (a .counts .now) (v .solve-one .last .1 .1 .1 .1 .1 .1 .1 .1 .1 .0) (rooms w .counts) (v .solve-one .kept .1 .1 .1 .1 .1 .1 .1 .1 .1 .0)
+    put-long (a .r * w .width .result) (w .width .result) (a .counts .now) (v .solve-one .last .1 .1 .1 .1 .1 .1 .1 .1 .1 .1 .0) (rooms w .counts) (v .solve-one .kept .1 .1 .1 .1 .1 .1 .1 .1 .1 .1 .0)
 
 same-length-7 : tie.Need-same-length-7
 same-length-7 c =
     let v = c .before .before .before .before .before .before .before .before .before .before .before .before .before .before .before .before in
     let w = width-of (copied-of (put-of v)) in
     let a = start-of w .args in
-    put-long (a .r * 3) 3 (a .totals .now) (v .solve-one .last .1 .1 .1 .1 .1 .1 .1 .1 .1 .1 .0) (rooms w .totals) (v .solve-one .kept .1 .1 .1 .1 .1 .1 .1 .1 .1 .1 .0)
+    put-long (a .r * 3) 3 (a .totals .now) (v .solve-one .last .1 .1 .1 .1 .1 .1 .1 .1 .1 .1 .1 .0) (rooms w .totals) (v .solve-one .kept .1 .1 .1 .1 .1 .1 .1 .1 .1 .1 .1 .0)
 
 same-length-8 : tie.Need-same-length-8
-same-length-8 c = c .before .before .before .before .before .before .before .before .before .before .before .before .before .before .before .before .solve-one .kept .1 .1 .1 .1 .1 .1 .1 .1 .1 .1 .1 .0
+same-length-8 c = c .before .before .before .before .before .before .before .before .before .before .before .before .before .before .before .before .solve-one .kept .1 .1 .1 .1 .1 .1 .1 .1 .1 .1 .1 .1 .0
 
 same-length-9 : tie.Need-same-length-9
 same-length-9 c = let p = put-of (c .before .before .before .before .before .before .before .before .before .before .before .before .before .before .before .before) in p .put-row .kept .0 ∙ copied-of p .copy-bytes .kept .0

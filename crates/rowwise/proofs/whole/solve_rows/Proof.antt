@@ -12,14 +12,14 @@ use Rattle.rowwise.proofs.whole.solve_rows.Statement.{statement}
 use Rattle.rowwise.proofs.whole.solve_rows.Tie as tie
 
 abbrev Inv-loop : tie.InvT-loop
-Inv-loop sheet l trials judging rows table heads₀ demands₀ flows₀ statuses₀ entries₀ counts₀ totals₀ scratch₀ copy₀ r₀ heads demands flows statuses entries counts totals scratch copy r =
+Inv-loop sheet l powers trials judging rows table heads₀ demands₀ flows₀ statuses₀ entries₀ counts₀ totals₀ scratch₀ copy₀ r₀ heads demands flows statuses entries counts totals scratch copy r =
     (r ≤ rows)
     × (length copy ≡ length copy₀)
     × (lengthsOf table (lends heads demands flows statuses entries counts totals scratch) ≡ lengthsOf table (lends heads₀ demands₀ flows₀ statuses₀ entries₀ counts₀ totals₀ scratch₀))
     × (lends heads demands flows statuses entries counts totals scratch ≡ rowsDone judging sheet l table r (lends heads₀ demands₀ flows₀ statuses₀ entries₀ counts₀ totals₀ scratch₀))
 
 abbrev μ-loop : tie.MeasureT-loop
-μ-loop sheet l trials judging rows table heads₀ demands₀ flows₀ statuses₀ entries₀ counts₀ totals₀ scratch₀ copy₀ r₀ heads demands flows statuses entries counts totals scratch copy r =
+μ-loop sheet l powers trials judging rows table heads₀ demands₀ flows₀ statuses₀ entries₀ counts₀ totals₀ scratch₀ copy₀ r₀ heads demands flows statuses entries counts totals scratch copy r =
     rows - r
 
 loop-holds : tie.Need-loop-holds Inv-loop μ-loop
@@ -32,11 +32,11 @@ solve-row-requires c κs =
     let start = l .before .before .before .before .before .before .before .before .before .before .before .before in
     let a = start .args in (
       start .pre .0,
-      (start .pre .1 .0, (l .loop .inv .1 ∙ start .pre .1 .1 .0, fits-kept (a .l) (a .trials) (widthOf (a .judging)) (a .rows) (l .loop .r) _ _ (l .loop .inv .2) (t .loop-test .taken) (start .pre .1 .1 .1))),
+      (start .pre .1 .0, (l .loop .inv .1 ∙ start .pre .1 .1 .0, (fits-kept (a .l) (a .trials) (widthOf (a .judging)) (a .rows) (l .loop .r) _ _ (l .loop .inv .2) (t .loop-test .taken) (start .pre .1 .1 .1 .0), start .pre .1 .1 .1 .1))),
     )
 
 add-r : tie.Need-add-r Inv-loop μ-loop
-add-r c = let t = c .before .before .before .before .before .before .before .before .before .before .before .before .before .before .before .before .before .before .before .before .before .before .before .before .before .before .before .before in omega (arith, t .loop-test .taken, t .before .before .before .before .before .before .before .before .before .before .before .before .before .pre .1 .1 .1 .few)
+add-r c = let t = c .before .before .before .before .before .before .before .before .before .before .before .before .before .before .before .before .before .before .before .before .before .before .before .before .before .before .before .before in omega (arith, t .loop-test .taken, t .before .before .before .before .before .before .before .before .before .before .before .before .before .pre .1 .1 .1 .0 .few)
 
 loop-less : tie.Need-loop-less Inv-loop μ-loop
 loop-less c = omega (arith, c .before .before .before .before .before .before .before .before .before .before .before .before .before .before .before .before .before .before .before .before .before .before .before .before .before .before .before .before .loop-test .taken)
@@ -50,11 +50,11 @@ loop-again c =
     let a = start .args in
     let o = l .loop in
     let b = lends (o .heads) (o .demands) (o .flows) (o .statuses) (o .entries) (o .counts) (o .totals) (o .scratch) in
-    let w = v .solve-row .last in
+    let w = v .solve-row .last .1 in
     let b' = lends (w .1 .1 .1 .1 .1 .1 .0) (w .1 .1 .1 .1 .1 .1 .1 .0) (w .1 .1 .1 .1 .1 .1 .1 .1 .0) (w .1 .1 .1 .1 .1 .1 .1 .1 .1 .0) (w .1 .1 .1 .1 .1 .1 .1 .1 .1 .1 .0) (w .1 .1 .1 .1 .1 .1 .1 .1 .1 .1 .1 .0) (w .1 .1 .1 .1 .1 .1 .1 .1 .1 .1 .1 .1 .0) (w .1 .1 .1 .1 .1 .1 .1 .1 .1 .1 .1 .1 .1 .0) in (
       omega (arith, t .loop-test .taken),
-      v .solve-row .kept .1 .1 .1 .1 .1 .1 .1 .1 .1 .1 .1 .1 .1 .1 .0 ∙ o .inv .1,
-      same-lengths (a .table .now) b b' (v .solve-row .kept .1 .1 .1 .1 .1 .1 .0) (v .solve-row .kept .1 .1 .1 .1 .1 .1 .1 .0) (v .solve-row .kept .1 .1 .1 .1 .1 .1 .1 .1 .0) (v .solve-row .kept .1 .1 .1 .1 .1 .1 .1 .1 .1 .0) (v .solve-row .kept .1 .1 .1 .1 .1 .1 .1 .1 .1 .1 .0) (v .solve-row .kept .1 .1 .1 .1 .1 .1 .1 .1 .1 .1 .1 .0) (v .solve-row .kept .1 .1 .1 .1 .1 .1 .1 .1 .1 .1 .1 .1 .0) (v .solve-row .kept .1 .1 .1 .1 .1 .1 .1 .1 .1 .1 .1 .1 .1 .0) ∙ o .inv .2,
+      v .solve-row .kept .1 .1 .1 .1 .1 .1 .1 .1 .1 .1 .1 .1 .1 .1 .1 .0 ∙ o .inv .1,
+      same-lengths (a .table .now) b b' (v .solve-row .kept .1 .1 .1 .1 .1 .1 .1 .0) (v .solve-row .kept .1 .1 .1 .1 .1 .1 .1 .1 .0) (v .solve-row .kept .1 .1 .1 .1 .1 .1 .1 .1 .1 .0) (v .solve-row .kept .1 .1 .1 .1 .1 .1 .1 .1 .1 .1 .0) (v .solve-row .kept .1 .1 .1 .1 .1 .1 .1 .1 .1 .1 .1 .0) (v .solve-row .kept .1 .1 .1 .1 .1 .1 .1 .1 .1 .1 .1 .1 .0) (v .solve-row .kept .1 .1 .1 .1 .1 .1 .1 .1 .1 .1 .1 .1 .1 .0) (v .solve-row .kept .1 .1 .1 .1 .1 .1 .1 .1 .1 .1 .1 .1 .1 .1 .0) ∙ o .inv .2,
       rows-next (a .judging) (a .sheet .now) (a .l) (a .table .now) (o .r) _ b b' (o .inv .3) (v .solve-row .ensures),
     )
 

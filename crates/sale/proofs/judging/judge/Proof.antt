@@ -9,24 +9,24 @@ abbrev start-of : tie.After-told3 → tie.Start
 start-of t = t .before .before .before .before .before .before .before .before .before .before .before .before
 
 low-requires : tie.Need-low-requires
-low-requires c κs = let s = c .before .before .before .before .before .before in (s .pre .0 .laid, s .pre .1 .heads)
+low-requires c κs = let s = c .before .before .before .before .before .before in (s .pre .0 .laid, s .pre .1 .0 .heads)
 
 ill-drawn-requires : tie.Need-ill-drawn-requires
-ill-drawn-requires c κs = let s = c .before .before .before .before .before .before .before .before in (s .pre .0 .laid, (s .pre .1 .heads, s .pre .1 .demands))
+ill-drawn-requires c κs = let s = c .before .before .before .before .before .before .before .before in (s .pre .0 .laid, (s .pre .1 .0 .heads, s .pre .1 .0 .demands))
 
 unheld-requires : tie.Need-unheld-requires
-unheld-requires c κs = let s = c .before .before .before .before .before .before .before .before .before .before in (s .pre .0 .laid, (s .pre .0 .ends, (s .pre .1 .statuses, s .pre .1 .heads)))
+unheld-requires c κs = let s = c .before .before .before .before .before .before .before .before .before .before in (s .pre .0 .laid, (s .pre .0 .ends, (s .pre .1 .0 .statuses, s .pre .1 .0 .heads)))
 
 tell-flows-requires : tie.Need-tell-flows-requires
-tell-flows-requires c κs = let s = start-of c in (s .pre .0, (s .pre .1 .heads, (s .pre .1 .demands, (s .pre .1 .flows, s .pre .1 .statuses))))
+tell-flows-requires c κs = let s = start-of c in (s .pre .0, ((s .pre .1 .0 .heads, (s .pre .1 .0 .demands, (s .pre .1 .0 .flows, s .pre .1 .0 .statuses))), s .pre .1 .1))
 
 undetermined-requires : tie.Need-undetermined-requires
 undetermined-requires c κs =
     let s = start-of (c .before) in
-    (s .pre .0 .laid, (s .pre .0 .ends, ((s .pre .0 .nodes, s .pre .0 .links), (s .pre .1 .flows, s .pre .1 .statuses))))
+    (s .pre .0 .laid, (s .pre .0 .ends, ((s .pre .0 .nodes, s .pre .0 .links), (s .pre .1 .0 .flows, s .pre .1 .0 .statuses))))
 
 repair-shown-requires : tie.Need-repair-shown-requires
-repair-shown-requires c κs = let s = start-of (c .before .before .before) in (s .pre .1 .few, s .pre .1 .entries)
+repair-shown-requires c κs = let s = start-of (c .before .before .before) in (s .pre .1 .0 .few, s .pre .1 .0 .entries)
 
 returns : tie.Need-returns
 returns c =

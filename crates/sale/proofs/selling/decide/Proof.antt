@@ -8,7 +8,7 @@ use Rattle.sale.proofs.selling.decide.Statement.{statement}
 use Rattle.sale.proofs.selling.decide.Tie as tie
 
 judge-requires : tie.Need-judge-requires
-judge-requires c κs = let start = c .before .before .before .before .before .before .before .before in (network-of _ _ (start .pre .0), start .pre .1 .room _ (start .pre .0) (c .if1 .left))
+judge-requires c κs = let start = c .before .before .before .before .before .before .before .before in (network-of _ _ (start .pre .0), (start .pre .1 .0 .room _ (start .pre .0) (c .if1 .left), start .pre .1 .1))
 
 returns : tie.Need-returns
 returns c =

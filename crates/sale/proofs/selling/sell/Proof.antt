@@ -6,7 +6,10 @@ use Rattle.sale.proofs.selling.sell.Statement.{statement}
 use Rattle.sale.proofs.selling.sell.Tie as tie
 
 sell-read-requires : tie.Need-sell-read-requires
-sell-read-requires c κs = let m = c .before .before .before .before .before .before .before in sym (m .before .before .read .ensures) ∙ m .l .given .1
+sell-read-requires c κs =
+    let p = c .before .before .before .before .before .before .before in
+    let m = p .before .before in
+    (sym (m .before .before .read .ensures) ∙ m .l .given .1, p .power-table .ensures)
 
 returns : tie.Need-returns
 returns c =
@@ -23,6 +26,7 @@ sell-spec =
     (λ c κs. search needs)
     (λ c κs. search needs)
     (λ c. search needs)
+    (λ c κs. search needs)
     sell-read-requires
     returns
     (λ c. search needs)

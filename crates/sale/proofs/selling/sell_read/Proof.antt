@@ -15,17 +15,17 @@ decide-requires c κs =
     let v = c .before .before .before .before .before .before .before .before .before .before .before .before .before .before .before .before .before in
     let start = start-of v in
     let a = start .args in
-    let k = v .solve-read .kept .1 .1 in
-    let e = solved-as (a .sheet .now) (a .l) (lent (a .heads .now) (a .demands .now) (a .flows .now) (a .statuses .now) (a .entries .now) (a .scratch .now)) _ (start .pre) (v .solve-read .ensures) in
-    (start .pre, backed (a .sheet .now) (lent (a .heads .now) (a .demands .now) (a .flows .now) (a .statuses .now) (a .entries .now) (a .scratch .now)) _ _ _ _ _ _ (ap (λ (o : Solved). o .answer) e) (k .0) (k .1 .0) (k .1 .1 .0) (k .1 .1 .1 .0) (k .1 .1 .1 .1 .0))
+    let k = v .solve-read .kept .1 .1 .1 in
+    let e = solved-as (a .sheet .now) (a .l) (lent (a .heads .now) (a .demands .now) (a .flows .now) (a .statuses .now) (a .entries .now) (a .scratch .now)) _ (start .pre .0) (v .solve-read .ensures) in
+    (start .pre .0, (backed (a .sheet .now) (lent (a .heads .now) (a .demands .now) (a .flows .now) (a .statuses .now) (a .entries .now) (a .scratch .now)) _ _ _ _ _ _ (ap (λ (o : Solved). o .answer) e) (k .0) (k .1 .0) (k .1 .1 .0) (k .1 .1 .1 .0) (k .1 .1 .1 .1 .0), start .pre .1))
 
 returns : tie.Need-returns
 returns c =
     let v = c .before .before .before .before .before .before .before .before .before .before .before .before .before .before .before .before .before .before in
     let start = start-of v in
     let a = start .args in
-    let e = solved-as (a .sheet .now) (a .l) (lent (a .heads .now) (a .demands .now) (a .flows .now) (a .statuses .now) (a .entries .now) (a .scratch .now)) _ (start .pre) (v .solve-read .ensures) in
-    sale-of _ (a .l) _ _ _ _ _ (start .pre) e (c .decide .ensures (v .solve-read .last .1 .1 .1 .1 .1 .1 .1 .0))
+    let e = solved-as (a .sheet .now) (a .l) (lent (a .heads .now) (a .demands .now) (a .flows .now) (a .statuses .now) (a .entries .now) (a .scratch .now)) _ (start .pre .0) (v .solve-read .ensures) in
+    sale-of _ (a .l) _ _ _ _ _ (start .pre .0) e (c .decide .ensures (v .solve-read .last .1 .1 .1 .1 .1 .1 .1 .1 .0))
 
 pub sell-read-spec : {M : Type 1} → statement M
 sell-read-spec =
