@@ -33,7 +33,9 @@ add-put-number c =
     omega (arith, c .node-place .ensures, node-within (start .args .l) (start .args .sheet .now) (l .loop .i) (start .pre .0) (omega arith))
 
 small : (w : tie.In-loop Inv-loop μ-loop) → let a = w .before .before .before .before .args in a .r * a .l .nodes ≤ 1984
-small w = let p = w .before .before .before .before .pre .1 in mul-le-mul (p .1) (p .0)
+small w =
+    let start = w .before .before .before .before in
+    let p = start .pre .1 in mul-le-mul (p .1) (p .0)
 
 mul-pattern : tie.Need-mul-pattern Inv-loop μ-loop
 mul-pattern c = omega (arith, small (c .before .before .before))
@@ -47,7 +49,8 @@ mul-pattern-2 c = omega (arith, small (c .before .before .before))
 shared-slice-read-pattern : tie.Need-shared-slice-read-pattern Inv-loop μ-loop
 shared-slice-read-pattern c =
     let t = c .before .before .before .before in
-    omega (arith, t .loop-test .taken, t .before .before .before .before .pre .1 .2)
+    let start = t .before .before .before .before in
+    omega (arith, t .loop-test .taken, start .pre .1 .2)
 
 pattern-requires : tie.Need-pattern-requires Inv-loop μ-loop
 pattern-requires c κs = search needs

@@ -24,7 +24,9 @@ abbrev listed-of : tie.After-run-trials → tie.After-list-at-nodes
 listed-of r = r .before .before .before .before .before .before .before .before .before .before .before .before .before .before
 
 number-unknowns-requires : tie.Need-number-unknowns-requires
-number-unknowns-requires c κs = let net = network-of _ _ (c .before .before .before .before .before .before .before .before .before .before .pre .0) in (net .laid, omega (arith, net .nodes))
+number-unknowns-requires c κs =
+    let start = c .before .before .before .before .before .before .before .before .before .before in
+    let net = network-of _ _ (start .pre .0) in (net .laid, omega (arith, net .nodes))
 
 list-at-nodes-requires : tie.Need-list-at-nodes-requires
 list-at-nodes-requires c κs =
@@ -33,12 +35,18 @@ list-at-nodes-requires c κs =
     (net .laid, (joined-of _ _ read, omega (arith, net .nodes, net .links)))
 
 slice-relend-prefix-run-trials : tie.Need-slice-relend-prefix-run-trials
-slice-relend-prefix-run-trials c = start-of (unknowns-of (c .before .before .before .before .before .before .before .before .before .before .before .before)) .pre .1 .1 .1 .1 .0 .1
+slice-relend-prefix-run-trials c =
+    let place = c .before .before .before .before .before .before .before .before .before .before .before .before in
+    let start = start-of (unknowns-of place) in
+    let scratch-long = start .pre .1 .1 .1 .1 .0 .1 in
+    scratch-long
 
 slice-aggregate-run-trials-4 : tie.Need-slice-aggregate-run-trials-4
 slice-aggregate-run-trials-4 c =
-    let start = start-of (unknowns-of (c .before .before .before .before .before .before .before .before .before .before .before .before .before)) in
-    sym (length-take-le 4096 (start .args .scratch .now) (start .pre .1 .1 .1 .1 .0 .1))
+    let place = c .before .before .before .before .before .before .before .before .before .before .before .before .before in
+    let start = start-of (unknowns-of place) in
+    let last-asked = start .pre .1 .1 .1 .1 .0 in
+    sym (length-take-le 4096 (start .args .scratch .now) (last-asked .1))
 
 run-trials-requires : tie.Need-run-trials-requires
 run-trials-requires c κs =

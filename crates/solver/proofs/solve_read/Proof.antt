@@ -14,7 +14,9 @@ abbrev start-of : tie.After-options-of → tie.Start
 start-of o = o .before .before .before .before .before .before .before .before
 
 options-of-requires : tie.Need-options-of-requires
-options-of-requires c κs = options-within _ _ (network-of _ _ (c .before .before .before .before .before .before .before .pre .0) .laid)
+options-of-requires c κs =
+    let start = c .before .before .before .before .before .before .before in
+    options-within _ _ (network-of _ _ (start .pre .0) .laid)
 
 too-short-requires : tie.Need-too-short-requires
 too-short-requires c κs = omega (arith, few-trials _ _ (start-of c .pre .0), ap (λ (o : Options). o .trials) (c .options-of .ensures))

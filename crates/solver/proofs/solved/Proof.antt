@@ -26,13 +26,18 @@ run-of o = o .before .before .before .before .before .before .before .before .be
 
 -- the first columns are as long as they were made
 abbrev first-of : tie.After-start-columns → State
-first-of s = let w = s .start-columns .last .1 .1 in state (w .0) (w .1 .0) (w .1 .1 .0) (w .1 .1 .1 .0) (w .1 .1 .1 .1 .0) (replicate 64 false)
+first-of s =
+    let w = s .start-columns .last .1 .1 in
+    let flows = w .1 .1 .1 in
+    state (w .0) (w .1 .0) (w .1 .1 .0) (flows .0) (flows .1 .0) (replicate 64 false)
 
 full-of : (s : tie.After-start-columns) → Full (first-of s)
 full-of s = full (first-of s) _ (s .start-columns .ensures) (start-full _ _)
 
 start-columns-requires : tie.Need-start-columns-requires
-start-columns-requires c κs = let net = network-of _ _ (c .before .before .before .before .before .before .before .before .before .before .before .before .pre .0) in (net .laid, (net .nodes, net .links))
+start-columns-requires c κs =
+    let start = c .before .before .before .before .before .before .before .before .before .before .before .before in
+    let net = network-of _ _ (start .pre .0) in (net .laid, (net .nodes, net .links))
 
 slice-aggregate-run : tie.Need-slice-aggregate-run
 slice-aggregate-run c = omega (arith, full-of (c .before))
@@ -44,10 +49,14 @@ slice-aggregate-run-3 : tie.Need-slice-aggregate-run-3
 slice-aggregate-run-3 c = omega (arith, full-of (c .before .before .before))
 
 slice-aggregate-run-4 : tie.Need-slice-aggregate-run-4
-slice-aggregate-run-4 c = omega (arith, full-of (c .before .before .before .before))
+slice-aggregate-run-4 c =
+    let place = c .before .before .before .before in
+    omega (arith, full-of place)
 
 slice-aggregate-run-5 : tie.Need-slice-aggregate-run-5
-slice-aggregate-run-5 c = omega (arith, full-of (c .before .before .before .before .before))
+slice-aggregate-run-5 c =
+    let place = c .before .before .before .before .before in
+    omega (arith, full-of place)
 
 run-requires : tie.Need-run-requires
 run-requires c κs =
@@ -84,6 +93,7 @@ conclude-requires c κs =
     let net = network-of _ _ (start .pre .0) in
     let e = start .pre .1 .1 .0 in
     let u = r .run .kept .1 .1 .1 .1 in
+    let flows-kept = u .1 .1 .1 in
     let k = full-of s in (
       net .laid,
       (
@@ -94,8 +104,8 @@ conclude-requires c κs =
             omega (arith, net .nodes, u .0, k .heads),
             omega (arith, net .nodes, u .1 .0, k .demands),
             omega (arith, net .nodes, u .1 .1 .0, k .drawn),
-            omega (arith, net .links, u .1 .1 .1 .0, k .flows),
-            omega (arith, net .links, u .1 .1 .1 .1 .0, k .statuses),
+            omega (arith, net .links, flows-kept .0, k .flows),
+            omega (arith, net .links, flows-kept .1 .0, k .statuses),
           ),
         ),
       ),
@@ -113,10 +123,18 @@ returns c =
     solved-of repairOf (a .sheet .now) (a .l) (a .trials) (lent (a .heads .now) (a .demands .now) (a .flows .now) (a .statuses .now) (a .entries .now) (a .scratch .now)) _ _ (start .pre .1 .0) (r .run .ensures .0) (ap out (r .run .ensures .1) ∙ o .conclude .ensures (z .0) (z .1 .0) (a .entries .now) (a .scratch .now))
 
 same-length-5 : tie.Need-same-length-5
-same-length-5 c = run-of (c .before .before .before .before .before .before .before .before) .run .kept .1 .1 .1 .1 .1 .1 .1 .1 .1 .1 .0
+same-length-5 c =
+    let place = c .before .before .before .before .before .before .before .before in
+    let ran = run-of place in
+    let entries-kept = ran .run .kept .1 .1 .1 .1 .1 .1 .1 .1 .1 .1 .0 in
+    entries-kept
 
 same-length-6 : tie.Need-same-length-6
-same-length-6 c = run-of (c .before .before .before .before .before .before .before .before) .run .kept .1 .1 .1 .1 .1 .1 .1 .1 .1 .1 .1 .0
+same-length-6 c =
+    let place = c .before .before .before .before .before .before .before .before in
+    let ran = run-of place in
+    let scratch-kept = ran .run .kept .1 .1 .1 .1 .1 .1 .1 .1 .1 .1 .1 .0 in
+    scratch-kept
 
 pub solved-spec : {M : Type 1} → statement M
 solved-spec =

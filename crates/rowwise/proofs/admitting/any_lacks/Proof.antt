@@ -6,7 +6,12 @@ use Rattle.rowwise.proofs.admitting.any_lacks.Tie as tie
 
 returns : tie.Need-returns
 unfolding lacking
-returns c = rw (c .before .before .before .before .before .before .before .lacks .ensures, c .before .before .before .before .before .before .lacks2 .ensures, c .before .before .before .before .before .lacks3 .ensures, c .before .before .before .before .lacks4 .ensures, c .before .before .before .lacks5 .ensures, c .before .before .lacks6 .ensures, c .before .lacks7 .ensures, c .lacks8 .ensures)
+returns c =
+    let at-lacks4 = c .before .before .before .before in
+    let at-lacks3 = c .before .before .before .before .before in
+    let at-lacks2 = c .before .before .before .before .before .before in
+    let at-lacks = c .before .before .before .before .before .before .before in
+    rw (at-lacks .lacks .ensures, at-lacks2 .lacks2 .ensures, at-lacks3 .lacks3 .ensures, at-lacks4 .lacks4 .ensures, c .before .before .before .lacks5 .ensures, c .before .before .lacks6 .ensures, c .before .lacks7 .ensures, c .lacks8 .ensures)
 
 pub any-lacks-spec : {M : Type 1} → statement M
 any-lacks-spec =

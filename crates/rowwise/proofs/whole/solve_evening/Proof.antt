@@ -34,9 +34,11 @@ options-of-requires c κs =
 admitted-requires : tie.Need-admitted-requires
 admitted-requires c κs =
     let o = c .before in
-    let good = sym (o .before .before .before .before .read .ensures) ∙ o .before .before .l .given .1 in
+    let at-read = o .before .before .before .before in
+    let good = sym (at-read .read .ensures) ∙ o .before .before .l .given .1 in
     let net = network-of _ _ good in
-    (omega (arith, few-trials _ _ good, ap (λ (x : Options). x .trials) (o .options-of .ensures)), omega (arith, c .width .ensures, few-counts (start-of (o .before .before .before .before) .args .judging)), net .nodes, net .links)
+    let place = o .before .before .before .before in
+    (omega (arith, few-trials _ _ good, ap (λ (x : Options). x .trials) (o .options-of .ensures)), omega (arith, c .width .ensures, few-counts (start-of place .args .judging)), net .nodes, net .links)
 
 returns : tie.Need-returns
 returns c =
@@ -51,7 +53,8 @@ returns c =
 array-borrow-prefix-copy : tie.Need-array-borrow-prefix-copy
 array-borrow-prefix-copy c =
     let o = c .before .before .before .before .before .before .before .before .before .before .before .before .before .before in
-    few-bytes _ _ (sym (o .before .before .before .before .read .ensures) ∙ o .before .before .l .given .1)
+    let at-read = o .before .before .before .before in
+    few-bytes _ _ (sym (at-read .read .ensures) ∙ o .before .before .l .given .1)
 
 slice-aggregate-solve-rows : tie.Need-slice-aggregate-solve-rows
 slice-aggregate-solve-rows c =

@@ -54,31 +54,49 @@ mul-k : tie.Need-mul-k
 mul-k c = omega (arith, rooms (c .before .before .before) .links)
 
 add-k2 : tie.Need-add-k2
-add-k2 c = omega (arith, rooms (c .before .before .before .before) .links)
+add-k2 c =
+    let place = c .before .before .before .before in
+    omega (arith, rooms place .links)
 
 mul-e : tie.Need-mul-e
-mul-e c = omega (arith, rooms (c .before .before .before .before) .bytes)
+mul-e c =
+    let place = c .before .before .before .before in
+    omega (arith, rooms place .bytes)
 
 mul-e-2 : tie.Need-mul-e-2
-mul-e-2 c = omega (arith, rooms (c .before .before .before .before) .bytes)
+mul-e-2 c =
+    let place = c .before .before .before .before in
+    omega (arith, rooms place .bytes)
 
 mul-e2 : tie.Need-mul-e2
-mul-e2 c = omega (arith, rooms (c .before .before .before .before) .bytes)
+mul-e2 c =
+    let place = c .before .before .before .before in
+    omega (arith, rooms place .bytes)
 
 add-e2 : tie.Need-add-e2
-add-e2 c = omega (arith, rooms (c .before .before .before .before) .bytes)
+add-e2 c =
+    let place = c .before .before .before .before in
+    omega (arith, rooms place .bytes)
 
 mul-c : tie.Need-mul-c
-mul-c c = omega (arith, rooms (c .before .before .before .before) .numbers)
+mul-c c =
+    let place = c .before .before .before .before in
+    omega (arith, rooms place .numbers)
 
 add-c2 : tie.Need-add-c2
-add-c2 c = omega (arith, rooms (c .before .before .before .before) .numbers)
+add-c2 c =
+    let place = c .before .before .before .before in
+    omega (arith, rooms place .numbers)
 
 mul-t : tie.Need-mul-t
-mul-t c = omega (arith, rooms (c .before .before .before .before) .sums)
+mul-t c =
+    let place = c .before .before .before .before in
+    omega (arith, rooms place .sums)
 
 add-t2 : tie.Need-add-t2
-add-t2 c = omega (arith, rooms (c .before .before .before .before) .sums)
+add-t2 c =
+    let place = c .before .before .before .before in
+    omega (arith, rooms place .sums)
 
 bad-demand-requires : tie.Need-bad-demand-requires
 bad-demand-requires c κs =
@@ -89,7 +107,9 @@ bad-demand-requires c κs =
     (omega (arith, net .laid .nodes, few-bytes (a .sheet .now) (a .l) (start .pre .0)), (net .nodes, omega (arith, start .pre .1 .1 .1 .0 .few), rooms w .table))
 
 copy-bytes-requires : tie.Need-copy-bytes-requires
-copy-bytes-requires c κs = let start = start-of (c .before .before .before .before .before .before) in (omega (arith, start .pre .1 .1 .0), omega arith)
+copy-bytes-requires c κs =
+    let place = c .before .before .before .before .before .before in
+    let start = start-of place in (omega (arith, start .pre .1 .1 .0), omega arith)
 
 put-row-requires : tie.Need-put-row-requires
 put-row-requires c κs =
@@ -102,7 +122,9 @@ put-row-requires c κs =
     (laid-long (a .l) (a .sheet .now) (p .copy-bytes .last .0) (ap length e) (net .laid), (net .nodes, omega (arith, start .pre .1 .1 .1 .0 .few), rooms w .table))
 
 mul-solve-one : tie.Need-mul-solve-one
-mul-solve-one c = omega (arith, rooms (c .before .before .before .before .before .before .before .before .before .before .before .before .before .before) .nodes)
+mul-solve-one c =
+    let place = c .before .before .before .before .before .before .before .before .before .before .before .before .before .before in
+    omega (arith, rooms place .nodes)
 
 sub-solve-one : tie.Need-sub-solve-one
 sub-solve-one c = omega arith
@@ -111,10 +133,14 @@ part-solve-one-start : tie.Need-part-solve-one-start
 part-solve-one-start c = omega arith
 
 part-solve-one-end : tie.Need-part-solve-one-end
-part-solve-one-end c = rooms (c .before .before .before .before .before .before .before .before .before .before .before .before .before .before) .heads
+part-solve-one-end c =
+    let place = c .before .before .before .before .before .before .before .before .before .before .before .before .before .before in
+    rooms place .heads
 
 mul-solve-one-2 : tie.Need-mul-solve-one-2
-mul-solve-one-2 c = omega (arith, rooms (c .before .before .before .before .before .before .before .before .before .before .before .before .before .before .before) .nodes)
+mul-solve-one-2 c =
+    let place = c .before .before .before .before .before .before .before .before .before .before .before .before .before .before .before in
+    omega (arith, rooms place .nodes)
 
 sub-solve-one-2 : tie.Need-sub-solve-one-2
 sub-solve-one-2 c = omega arith
@@ -123,10 +149,14 @@ part-solve-one-start-2 : tie.Need-part-solve-one-start-2
 part-solve-one-start-2 c = omega arith
 
 part-solve-one-end-2 : tie.Need-part-solve-one-end-2
-part-solve-one-end-2 c = rooms (c .before .before .before .before .before .before .before .before .before .before .before .before .before .before .before) .demands
+part-solve-one-end-2 c =
+    let place = c .before .before .before .before .before .before .before .before .before .before .before .before .before .before .before in
+    rooms place .demands
 
 mul-solve-one-3 : tie.Need-mul-solve-one-3
-mul-solve-one-3 c = omega (arith, rooms (c .before .before .before .before .before .before .before .before .before .before .before .before .before .before .before .before) .links)
+mul-solve-one-3 c =
+    let place = c .before .before .before .before .before .before .before .before .before .before .before .before .before .before .before .before in
+    omega (arith, rooms place .links)
 
 sub-solve-one-3 : tie.Need-sub-solve-one-3
 sub-solve-one-3 c = omega arith
@@ -135,7 +165,9 @@ part-solve-one-start-3 : tie.Need-part-solve-one-start-3
 part-solve-one-start-3 c = omega arith
 
 part-solve-one-end-3 : tie.Need-part-solve-one-end-3
-part-solve-one-end-3 c = rooms (c .before .before .before .before .before .before .before .before .before .before .before .before .before .before .before .before) .flows
+part-solve-one-end-3 c =
+    let place = c .before .before .before .before .before .before .before .before .before .before .before .before .before .before .before .before in
+    rooms place .flows
 
 sub-solve-one-4 : tie.Need-sub-solve-one-4
 sub-solve-one-4 c = omega arith
@@ -144,7 +176,9 @@ part-solve-one-start-4 : tie.Need-part-solve-one-start-4
 part-solve-one-start-4 c = omega arith
 
 part-solve-one-end-4 : tie.Need-part-solve-one-end-4
-part-solve-one-end-4 c = rooms (c .before .before .before .before .before .before .before .before .before .before .before .before .before .before .before .before .before) .statuses
+part-solve-one-end-4 c =
+    let place = c .before .before .before .before .before .before .before .before .before .before .before .before .before .before .before .before .before in
+    rooms place .statuses
 
 sub-solve-one-5 : tie.Need-sub-solve-one-5
 sub-solve-one-5 c = omega arith
@@ -153,10 +187,14 @@ part-solve-one-start-5 : tie.Need-part-solve-one-start-5
 part-solve-one-start-5 c = omega arith
 
 part-solve-one-end-5 : tie.Need-part-solve-one-end-5
-part-solve-one-end-5 c = rooms (c .before .before .before .before .before .before .before .before .before .before .before .before .before .before .before .before .before .before) .entries
+part-solve-one-end-5 c =
+    let place = c .before .before .before .before .before .before .before .before .before .before .before .before .before .before .before .before .before .before in
+    rooms place .entries
 
 mul-solve-one-4 : tie.Need-mul-solve-one-4
-mul-solve-one-4 c = omega (arith, rooms (c .before .before .before .before .before .before .before .before .before .before .before .before .before .before .before .before .before .before .before) .numbers)
+mul-solve-one-4 c =
+    let place = c .before .before .before .before .before .before .before .before .before .before .before .before .before .before .before .before .before .before .before in
+    omega (arith, rooms place .numbers)
 
 sub-solve-one-6 : tie.Need-sub-solve-one-6
 sub-solve-one-6 c = omega arith
@@ -165,10 +203,14 @@ part-solve-one-start-6 : tie.Need-part-solve-one-start-6
 part-solve-one-start-6 c = omega arith
 
 part-solve-one-end-6 : tie.Need-part-solve-one-end-6
-part-solve-one-end-6 c = rooms (c .before .before .before .before .before .before .before .before .before .before .before .before .before .before .before .before .before .before .before) .counts
+part-solve-one-end-6 c =
+    let place = c .before .before .before .before .before .before .before .before .before .before .before .before .before .before .before .before .before .before .before in
+    rooms place .counts
 
 mul-solve-one-5 : tie.Need-mul-solve-one-5
-mul-solve-one-5 c = omega (arith, rooms (c .before .before .before .before .before .before .before .before .before .before .before .before .before .before .before .before .before .before .before .before) .sums)
+mul-solve-one-5 c =
+    let place = c .before .before .before .before .before .before .before .before .before .before .before .before .before .before .before .before .before .before .before .before in
+    omega (arith, rooms place .sums)
 
 sub-solve-one-7 : tie.Need-sub-solve-one-7
 sub-solve-one-7 c = omega arith
@@ -177,7 +219,9 @@ part-solve-one-start-7 : tie.Need-part-solve-one-start-7
 part-solve-one-start-7 c = omega arith
 
 part-solve-one-end-7 : tie.Need-part-solve-one-end-7
-part-solve-one-end-7 c = rooms (c .before .before .before .before .before .before .before .before .before .before .before .before .before .before .before .before .before .before .before .before) .totals
+part-solve-one-end-7 c =
+    let place = c .before .before .before .before .before .before .before .before .before .before .before .before .before .before .before .before .before .before .before .before in
+    rooms place .totals
 
 solve-one-requires : tie.Need-solve-one-requires
 solve-one-requires c κs =
@@ -185,6 +229,7 @@ solve-one-requires c κs =
     let start = start-of w in
     let a = start .args in
     let p = c .before .before .before .before .before .before .before .before .before .before .before in
+    let powers-right = start .pre .1 .1 .1 .1 in
     let k = copied-of p in (
       row-read (a .sheet .now) _ _ (a .l) (a .table .now) (a .r) _ (start .pre .0) (table-of w .shared-slice-known2 .given) (k .before .before .bad-demand .ensures) (k .copy-bytes .ensures ∙ whole-copy (a .sheet .now) (a .copy .now) (start .pre .1 .1 .0)) (p .put-row .ensures),
       (
@@ -192,7 +237,7 @@ solve-one-requires c κs =
           omega (arith, w .width .ensures, part-long (a .r * w .width .result) (w .width .result) (a .counts .now) (rooms w .counts)),
           omega (arith, part-long (a .r * 3) 3 (a .totals .now) (rooms w .totals)),
         ),
-        start .pre .1 .1 .1 .1,
+        powers-right,
       ),
     )
 
@@ -201,55 +246,71 @@ same-length c =
     let v = c .before .before .before .before .before .before .before .before .before .before .before .before .before .before .before .before in
     let w = width-of (copied-of (put-of v)) in
     let a = start-of w .args in
-    put-long (a .r * a .l .nodes) (a .l .nodes) (a .heads .now) (v .solve-one .last .1 .1 .1 .1 .1 .0) (rooms w .heads) (v .solve-one .kept .1 .1 .1 .1 .1 .0)
+    let heads-last = v .solve-one .last .1 .1 .1 .1 .1 .0 in
+    let heads-kept = v .solve-one .kept .1 .1 .1 .1 .1 .0 in
+    put-long (a .r * a .l .nodes) (a .l .nodes) (a .heads .now) heads-last (rooms w .heads) heads-kept
 
 same-length-2 : tie.Need-same-length-2
 same-length-2 c =
     let v = c .before .before .before .before .before .before .before .before .before .before .before .before .before .before .before .before in
     let w = width-of (copied-of (put-of v)) in
     let a = start-of w .args in
-    put-long (a .r * a .l .nodes) (a .l .nodes) (a .demands .now) (v .solve-one .last .1 .1 .1 .1 .1 .1 .0) (rooms w .demands) (v .solve-one .kept .1 .1 .1 .1 .1 .1 .0)
+    let demands-last = v .solve-one .last .1 .1 .1 .1 .1 .1 .0 in
+    let demands-kept = v .solve-one .kept .1 .1 .1 .1 .1 .1 .0 in
+    put-long (a .r * a .l .nodes) (a .l .nodes) (a .demands .now) demands-last (rooms w .demands) demands-kept
 
 same-length-3 : tie.Need-same-length-3
 same-length-3 c =
     let v = c .before .before .before .before .before .before .before .before .before .before .before .before .before .before .before .before in
     let w = width-of (copied-of (put-of v)) in
     let a = start-of w .args in
-    put-long (a .r * a .l .links) (a .l .links) (a .flows .now) (v .solve-one .last .1 .1 .1 .1 .1 .1 .1 .0) (rooms w .flows) (v .solve-one .kept .1 .1 .1 .1 .1 .1 .1 .0)
+    let flows-last = v .solve-one .last .1 .1 .1 .1 .1 .1 .1 .0 in
+    let flows-kept = v .solve-one .kept .1 .1 .1 .1 .1 .1 .1 .0 in
+    put-long (a .r * a .l .links) (a .l .links) (a .flows .now) flows-last (rooms w .flows) flows-kept
 
 same-length-4 : tie.Need-same-length-4
 same-length-4 c =
     let v = c .before .before .before .before .before .before .before .before .before .before .before .before .before .before .before .before in
     let w = width-of (copied-of (put-of v)) in
     let a = start-of w .args in
-    put-long (a .r * a .l .links) (a .l .links) (a .statuses .now) (v .solve-one .last .1 .1 .1 .1 .1 .1 .1 .1 .0) (rooms w .statuses) (v .solve-one .kept .1 .1 .1 .1 .1 .1 .1 .1 .0)
+    let statuses-last = v .solve-one .last .1 .1 .1 .1 .1 .1 .1 .1 .0 in
+    let statuses-kept = v .solve-one .kept .1 .1 .1 .1 .1 .1 .1 .1 .0 in
+    put-long (a .r * a .l .links) (a .l .links) (a .statuses .now) statuses-last (rooms w .statuses) statuses-kept
 
 same-length-5 : tie.Need-same-length-5
 same-length-5 c =
     let v = c .before .before .before .before .before .before .before .before .before .before .before .before .before .before .before .before in
     let w = width-of (copied-of (put-of v)) in
     let a = start-of w .args in
-    put-long (a .r * (4 * a .trials)) (4 * a .trials) (a .entries .now) (v .solve-one .last .1 .1 .1 .1 .1 .1 .1 .1 .1 .0) (rooms w .entries) (v .solve-one .kept .1 .1 .1 .1 .1 .1 .1 .1 .1 .0)
+    let entries-last = v .solve-one .last .1 .1 .1 .1 .1 .1 .1 .1 .1 .0 in
+    let entries-kept = v .solve-one .kept .1 .1 .1 .1 .1 .1 .1 .1 .1 .0 in
+    put-long (a .r * (4 * a .trials)) (4 * a .trials) (a .entries .now) entries-last (rooms w .entries) entries-kept
 
 same-length-6 : tie.Need-same-length-6
 same-length-6 c =
     let v = c .before .before .before .before .before .before .before .before .before .before .before .before .before .before .before .before in
     let w = width-of (copied-of (put-of v)) in
     let a = start-of w .args in
-    put-long (a .r * w .width .result) (w .width .result) (a .counts .now) (v .solve-one .last .1 .1 .1 .1 .1 .1 .1 .1 .1 .1 .0) (rooms w .counts) (v .solve-one .kept .1 .1 .1 .1 .1 .1 .1 .1 .1 .1 .0)
+    let counts-last = v .solve-one .last .1 .1 .1 .1 .1 .1 .1 .1 .1 .1 .0 in
+    let counts-kept = v .solve-one .kept .1 .1 .1 .1 .1 .1 .1 .1 .1 .1 .0 in
+    put-long (a .r * w .width .result) (w .width .result) (a .counts .now) counts-last (rooms w .counts) counts-kept
 
 same-length-7 : tie.Need-same-length-7
 same-length-7 c =
     let v = c .before .before .before .before .before .before .before .before .before .before .before .before .before .before .before .before in
     let w = width-of (copied-of (put-of v)) in
     let a = start-of w .args in
-    put-long (a .r * 3) 3 (a .totals .now) (v .solve-one .last .1 .1 .1 .1 .1 .1 .1 .1 .1 .1 .1 .0) (rooms w .totals) (v .solve-one .kept .1 .1 .1 .1 .1 .1 .1 .1 .1 .1 .1 .0)
+    let totals-last = v .solve-one .last .1 .1 .1 .1 .1 .1 .1 .1 .1 .1 .1 .0 in
+    let totals-kept = v .solve-one .kept .1 .1 .1 .1 .1 .1 .1 .1 .1 .1 .1 .0 in
+    put-long (a .r * 3) 3 (a .totals .now) totals-last (rooms w .totals) totals-kept
 
 same-length-8 : tie.Need-same-length-8
 same-length-8 c = c .before .before .before .before .before .before .before .before .before .before .before .before .before .before .before .before .solve-one .kept .1 .1 .1 .1 .1 .1 .1 .1 .1 .1 .1 .1 .0
 
 same-length-9 : tie.Need-same-length-9
-same-length-9 c = let p = put-of (c .before .before .before .before .before .before .before .before .before .before .before .before .before .before .before .before) in p .put-row .kept .0 ∙ copied-of p .copy-bytes .kept .0
+same-length-9 c =
+    let place = c .before .before .before .before .before .before .before .before .before .before .before .before .before .before .before .before in
+    let p = put-of place in p .put-row .kept .0 ∙ copied-of p .copy-bytes .kept .0
 
 returns : tie.Need-returns
 returns c =

@@ -30,16 +30,23 @@ solve-row-requires c κs =
     let t = c .before .before .before .before .before .before .before .before .before in
     let l = t .before in
     let start = l .before .before .before .before .before .before .before .before .before .before .before .before in
+    let fits = start .pre .1 .1 .1 in
     let a = start .args in (
       start .pre .0,
-      (start .pre .1 .0, (l .loop .inv .1 ∙ start .pre .1 .1 .0, (fits-kept (a .l) (a .trials) (widthOf (a .judging)) (a .rows) (l .loop .r) _ _ (l .loop .inv .2) (t .loop-test .taken) (start .pre .1 .1 .1 .0), start .pre .1 .1 .1 .1))),
+      (start .pre .1 .0, (l .loop .inv .1 ∙ start .pre .1 .1 .0, (fits-kept (a .l) (a .trials) (widthOf (a .judging)) (a .rows) (l .loop .r) _ _ (l .loop .inv .2) (t .loop-test .taken) (fits .0), fits .1))),
     )
 
 add-r : tie.Need-add-r Inv-loop μ-loop
-add-r c = let t = c .before .before .before .before .before .before .before .before .before .before .before .before .before .before .before .before .before .before .before .before .before .before .before .before .before .before .before .before in omega (arith, t .loop-test .taken, t .before .before .before .before .before .before .before .before .before .before .before .before .before .pre .1 .1 .1 .0 .few)
+add-r c =
+    let t = c .before .before .before .before .before .before .before .before .before .before .before .before .before .before .before .before .before .before .before .before .before .before .before .before .before .before .before .before in
+    let start = t .before .before .before .before .before .before .before .before .before .before .before .before .before in
+    let fits = start .pre .1 .1 .1 in
+    omega (arith, t .loop-test .taken, fits .0 .few)
 
 loop-less : tie.Need-loop-less Inv-loop μ-loop
-loop-less c = omega (arith, c .before .before .before .before .before .before .before .before .before .before .before .before .before .before .before .before .before .before .before .before .before .before .before .before .before .before .before .before .loop-test .taken)
+loop-less c =
+    let at-loop-test = c .before .before .before .before .before .before .before .before .before .before .before .before .before .before .before .before .before .before .before .before .before .before .before .before .before .before .before .before in
+    omega (arith, at-loop-test .loop-test .taken)
 
 loop-again : tie.Need-loop-again Inv-loop μ-loop
 loop-again c =
@@ -51,10 +58,27 @@ loop-again c =
     let o = l .loop in
     let b = lends (o .heads) (o .demands) (o .flows) (o .statuses) (o .entries) (o .counts) (o .totals) (o .scratch) in
     let w = v .solve-row .last .1 in
-    let b' = lends (w .1 .1 .1 .1 .1 .1 .0) (w .1 .1 .1 .1 .1 .1 .1 .0) (w .1 .1 .1 .1 .1 .1 .1 .1 .0) (w .1 .1 .1 .1 .1 .1 .1 .1 .1 .0) (w .1 .1 .1 .1 .1 .1 .1 .1 .1 .1 .0) (w .1 .1 .1 .1 .1 .1 .1 .1 .1 .1 .1 .0) (w .1 .1 .1 .1 .1 .1 .1 .1 .1 .1 .1 .1 .0) (w .1 .1 .1 .1 .1 .1 .1 .1 .1 .1 .1 .1 .1 .0) in (
+    let heads-after = w .1 .1 .1 .1 .1 .1 .0 in
+    let demands-after = w .1 .1 .1 .1 .1 .1 .1 .0 in
+    let flows-after = w .1 .1 .1 .1 .1 .1 .1 .1 .0 in
+    let statuses-after = w .1 .1 .1 .1 .1 .1 .1 .1 .1 .0 in
+    let entries-after = w .1 .1 .1 .1 .1 .1 .1 .1 .1 .1 .0 in
+    let counts-after = w .1 .1 .1 .1 .1 .1 .1 .1 .1 .1 .1 .0 in
+    let totals-after = w .1 .1 .1 .1 .1 .1 .1 .1 .1 .1 .1 .1 .0 in
+    let scratch-after = w .1 .1 .1 .1 .1 .1 .1 .1 .1 .1 .1 .1 .1 .0 in
+    let heads-kept = v .solve-row .kept .1 .1 .1 .1 .1 .1 .1 .0 in
+    let demands-kept = v .solve-row .kept .1 .1 .1 .1 .1 .1 .1 .1 .0 in
+    let flows-kept = v .solve-row .kept .1 .1 .1 .1 .1 .1 .1 .1 .1 .0 in
+    let statuses-kept = v .solve-row .kept .1 .1 .1 .1 .1 .1 .1 .1 .1 .1 .0 in
+    let entries-kept = v .solve-row .kept .1 .1 .1 .1 .1 .1 .1 .1 .1 .1 .1 .0 in
+    let counts-kept = v .solve-row .kept .1 .1 .1 .1 .1 .1 .1 .1 .1 .1 .1 .1 .0 in
+    let totals-kept = v .solve-row .kept .1 .1 .1 .1 .1 .1 .1 .1 .1 .1 .1 .1 .1 .0 in
+    let scratch-kept = v .solve-row .kept .1 .1 .1 .1 .1 .1 .1 .1 .1 .1 .1 .1 .1 .1 .0 in
+    let copy-kept = v .solve-row .kept .1 .1 .1 .1 .1 .1 .1 .1 .1 .1 .1 .1 .1 .1 .1 .0 in
+    let b' = lends heads-after demands-after flows-after statuses-after entries-after counts-after totals-after scratch-after in (
       omega (arith, t .loop-test .taken),
-      v .solve-row .kept .1 .1 .1 .1 .1 .1 .1 .1 .1 .1 .1 .1 .1 .1 .1 .0 ∙ o .inv .1,
-      same-lengths (a .table .now) b b' (v .solve-row .kept .1 .1 .1 .1 .1 .1 .1 .0) (v .solve-row .kept .1 .1 .1 .1 .1 .1 .1 .1 .0) (v .solve-row .kept .1 .1 .1 .1 .1 .1 .1 .1 .1 .0) (v .solve-row .kept .1 .1 .1 .1 .1 .1 .1 .1 .1 .1 .0) (v .solve-row .kept .1 .1 .1 .1 .1 .1 .1 .1 .1 .1 .1 .0) (v .solve-row .kept .1 .1 .1 .1 .1 .1 .1 .1 .1 .1 .1 .1 .0) (v .solve-row .kept .1 .1 .1 .1 .1 .1 .1 .1 .1 .1 .1 .1 .1 .0) (v .solve-row .kept .1 .1 .1 .1 .1 .1 .1 .1 .1 .1 .1 .1 .1 .1 .0) ∙ o .inv .2,
+      copy-kept ∙ o .inv .1,
+      same-lengths (a .table .now) b b' heads-kept demands-kept flows-kept statuses-kept entries-kept counts-kept totals-kept scratch-kept ∙ o .inv .2,
       rows-next (a .judging) (a .sheet .now) (a .l) (a .table .now) (o .r) _ b b' (o .inv .3) (v .solve-row .ensures),
     )
 

@@ -35,7 +35,8 @@ unsettled-requires c κs =
 
 unbalanced-requires : tie.Need-unbalanced-requires
 unbalanced-requires c κs =
-    let m = sums-of (c .before .before .before .before .before) in
+    let place = c .before .before .before .before .before in
+    let m = sums-of place in
     let s = start-of m in
     (s .pre .0 .laid, omega (arith, s .pre .0 .nodes, m .imbalance .kept))
 

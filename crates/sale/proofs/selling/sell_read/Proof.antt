@@ -17,7 +17,8 @@ decide-requires c κs =
     let a = start .args in
     let k = v .solve-read .kept .1 .1 .1 in
     let e = solved-as (a .sheet .now) (a .l) (lent (a .heads .now) (a .demands .now) (a .flows .now) (a .statuses .now) (a .entries .now) (a .scratch .now)) _ (start .pre .0) (v .solve-read .ensures) in
-    (start .pre .0, (backed (a .sheet .now) (lent (a .heads .now) (a .demands .now) (a .flows .now) (a .statuses .now) (a .entries .now) (a .scratch .now)) _ _ _ _ _ _ (ap (λ (o : Solved). o .answer) e) (k .0) (k .1 .0) (k .1 .1 .0) (k .1 .1 .1 .0) (k .1 .1 .1 .1 .0), start .pre .1))
+    let entries-kept = k .1 .1 .1 .1 .0 in
+    (start .pre .0, (backed (a .sheet .now) (lent (a .heads .now) (a .demands .now) (a .flows .now) (a .statuses .now) (a .entries .now) (a .scratch .now)) _ _ _ _ _ _ (ap (λ (o : Solved). o .answer) e) (k .0) (k .1 .0) (k .1 .1 .0) (k .1 .1 .1 .0) entries-kept, start .pre .1))
 
 returns : tie.Need-returns
 returns c =
@@ -25,7 +26,8 @@ returns c =
     let start = start-of v in
     let a = start .args in
     let e = solved-as (a .sheet .now) (a .l) (lent (a .heads .now) (a .demands .now) (a .flows .now) (a .statuses .now) (a .entries .now) (a .scratch .now)) _ (start .pre .0) (v .solve-read .ensures) in
-    sale-of _ (a .l) _ _ _ _ _ (start .pre .0) e (c .decide .ensures (v .solve-read .last .1 .1 .1 .1 .1 .1 .1 .1 .0))
+    let scratch-after = v .solve-read .last .1 .1 .1 .1 .1 .1 .1 .1 .0 in
+    sale-of _ (a .l) _ _ _ _ _ (start .pre .0) e (c .decide .ensures scratch-after)
 
 pub sell-read-spec : {M : Type 1} → statement M
 sell-read-spec =
