@@ -124,6 +124,10 @@ def main(argv):
                 continue
             if p.endswith(".rt") and not in_clause(t, m.start()):
                 continue
+            line = t[t.rfind("\n", 0, m.start()) + 1:m.start()]
+            # a tactic's name is a common word too: of a function, and in comments
+            if m[0] in OWN and ("--" in line or "//" in line or "." in (t[m.start() - 1:m.start()], t[m.end():m.end() + 1]) or (p.endswith(".rt") and not re.match(r"\s*(requires|ensures|ghost)\b", line))):
+                continue
             pieces += [t[at:m.start()], new]
             at = m.end()
         new = "".join(pieces) + t[at:]

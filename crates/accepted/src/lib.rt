@@ -1,1 +1,2 @@
 // No code: what an accepted sheet is stands in specs/, the theorems in proofs/.
+#![tactic(auto)]

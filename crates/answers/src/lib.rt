@@ -1,4 +1,6 @@
 // The answer, refusal 5, and answers without results (document 01, "What the desk is told").
+#![tactic(auto)]
+
 ghost use Rattle.std.specs.Prelude.{◌≡◌, ◌≤◌};
 ghost use Rattle.refusals.specs.Refusals.{number_of, place_of};
 ghost use Rattle.entries.specs.Entries.{none};
@@ -9,7 +11,7 @@ use found::Found;
 use layout::Layout;
 use refusals::Refusal;
 
-#[derive(Drop)]
+#[derive(Clone, Copy)]
 pub struct Answer {
     pub number: usize,
     pub place: usize,

@@ -97,7 +97,7 @@ fn add_grounded(sheet: &[u8], l: Layout, unknowns: &[usize], grounded: &[bool], 
     let mut i: usize = 0;
     while i < l.nodes {
         let row = unknown_of(unknowns, NodeIndex(i));
-        ground_node(grounded[i], row, matrix);
+        ground(grounded[i], row, matrix);
         i += 1;
     }
 }

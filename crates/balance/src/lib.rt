@@ -1,5 +1,7 @@
 // hydraulicsolver.rs `flow_balance`, but for tanks (request [3]): the balance of a converged solve, and
 // the demands after it.
+#![tactic(auto)]
+
 ghost use Rattle.std.specs.Prelude.{◌≡◌, ◌≤◌, length};
 ghost use Rattle.layout.specs.Places.{Laid};
 ghost use Rattle.links.specs.Links.{EndsIn};
@@ -11,7 +13,7 @@ use links::{link_end, link_start};
 use nodes::{in_service, is_fixed};
 
 // Total demand, total supply, and the first less the second.
-#[derive(Drop)]
+#[derive(Clone, Copy)]
 pub struct Totals {
     pub demand: f64,
     pub supply: f64,

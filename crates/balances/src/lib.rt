@@ -1,4 +1,6 @@
 // Line 4 of the verdict: does what flows in at a junction come out again?
+#![tactic(auto)]
+
 ghost use Rattle.std.specs.Prelude.{◌≡◌, ◌<◌, ◌≤◌, length};
 ghost use Rattle.layout.specs.Places.{Laid};
 ghost use Rattle.balances.specs.Balances.{leaks, unbalanced_of};

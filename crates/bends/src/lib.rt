@@ -1,4 +1,6 @@
 // What demands that give way to pressure add to the matrix and to the right side.
+#![tactic(auto)]
+
 ghost use Rattle.std.specs.Prelude.{◌≡◌, ◌<◌, ◌≤◌, length};
 ghost use Rattle.numbering.specs.Numbering.{RowBelow};
 ghost use Rattle.bends.specs.Bends.{bend_row, bend_diagonal, Bending, node_diagonal, node_row, diagonal_bends, row_bends, bent_matrix, bent_right};

@@ -1,10 +1,12 @@
 // Why the status of a link changed, and what an entry of the record tells of it (document 02, [2]).
+#![tactic(auto)]
+
 ghost use Rattle.std.specs.Prelude.{◌≡◌};
 ghost use Rattle.causes.specs.Causes.{cause_code, first_flip, flip_number};
 
 use links::LinkIndex;
 
-#[derive(Drop)]
+#[derive(Clone, Copy)]
 pub enum Cause {
     None,
     ReverseFlow,
@@ -14,7 +16,7 @@ pub enum Cause {
 }
 
 // What is told of the links that changed in one update: the lowest and its cause.
-#[derive(Drop)]
+#[derive(Clone, Copy)]
 pub enum Flip {
     Nothing,
     Link(LinkIndex, Cause),

@@ -1,16 +1,18 @@
 // The codes of the sheet and what they stand for. A code that stands for nothing is read as the
 // last one; a sheet that has such a code is refused.
+#![tactic(auto)]
+
 ghost use Rattle.std.specs.Prelude.{◌≡◌};
 ghost use Rattle.codes.specs.Codes.{node_kind_of, link_kind_of, status_of, status_code};
 
-#[derive(Drop)]
+#[derive(Clone, Copy)]
 pub enum NodeKind {
     Junction,
     Reservoir,
     Tank,
 }
 
-#[derive(Drop)]
+#[derive(Clone, Copy)]
 pub enum LinkKind {
     Pipe,
     Prv,
@@ -21,7 +23,7 @@ pub enum LinkKind {
     Pcv,
 }
 
-#[derive(Drop)]
+#[derive(Clone, Copy)]
 pub enum Status {
     Closed,
     Open,

@@ -1,4 +1,6 @@
 // A link's coefficients by value.
+#![tactic(auto)]
+
 ghost use Rattle.std.specs.Prelude.{◌≡◌};
 ghost use Rattle.coefficient.specs.Link.{no_addition, held_at, simple_of};
 
@@ -6,7 +8,7 @@ use constants::BIG_VALUE;
 
 // What is added at a node: to its diagonal and to its right-hand side. An absent addition, where
 // `given` is false, is never added.
-#[derive(Drop)]
+#[derive(Clone, Copy)]
 pub struct NodeAddition {
     pub given: bool,
     pub diagonal: f64,
@@ -14,7 +16,7 @@ pub struct NodeAddition {
 }
 
 // The Rust's g_inv and y, and what a PSV adds at its start and a PRV at its end.
-#[derive(Drop)]
+#[derive(Clone, Copy)]
 pub struct Coefficients {
     pub conductance: f64,
     pub offset: f64,

@@ -1,4 +1,6 @@
 // Sums kept in a column of floats, a column set to +0.0, and the start of a column copied.
+#![tactic(auto)]
+
 ghost use Rattle.std.specs.Prelude.{◌≡◌, ◌<◌, ◌≤◌, length};
 ghost use Rattle.columns.specs.Columns.{cleared, add_to, take_from, copied};
 

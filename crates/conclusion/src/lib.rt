@@ -1,5 +1,7 @@
 // How the end of a run is told, and what it writes into the lent buffers (document 01, "What the
 // desk is told").
+#![tactic(auto)]
+
 ghost use Rattle.std.specs.Prelude.{◌≡◌, List, Bool, ℕ, ◌≤◌, length, Float};
 ghost use Rattle.layout.specs.Places.{Laid};
 ghost use Rattle.links.specs.Links.{EndsIn};

@@ -1,4 +1,6 @@
 // Whether a link joins the heads of its ends, and which head an Active regulator gives.
+#![tactic(auto)]
+
 ghost use Rattle.std.specs.Prelude.{◌≡◌};
 ghost use Rattle.conducting.specs.Conducting.{pipe_conducts, controlled, valve_conducts, conducts_of, held_by, holds_of};
 

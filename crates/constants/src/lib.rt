@@ -1,5 +1,7 @@
 // constants.rs: tolerances and factors per cubic foot per second. H_EXPONENT stands in pipe.rs
 // there, and 0.02517 has no name.
+#![tactic(auto)]
+
 pub const Q_ZERO: f64 = 1e-6;
 
 pub const SMALL_VALUE: f64 = 1e-6;

@@ -1,4 +1,6 @@
 // Document 01, "Damping" and the test of convergence, with the flow units that it asks for.
+#![tactic(auto)]
+
 mod steps;
 mod units;
 

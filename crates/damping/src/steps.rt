@@ -7,7 +7,7 @@ use constants::{BIG_VALUE, Q_ZERO};
 use float::{larger, smaller};
 
 // The damping factor and the relative change before.
-#[derive(Drop)]
+#[derive(Clone, Copy)]
 pub struct Damping {
     pub factor: f64,
     pub previous: f64,

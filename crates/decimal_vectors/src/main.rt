@@ -1,5 +1,7 @@
 // Replays vectors over crate decimals: records of ten bytes on standard input, the digits as a number of eight bytes, 1 where they
 // are divided by the power of ten, and the power; and for each a line with the pattern of the f64, as 16 hex digits. A record out of range gives an empty line.
+#![tactic(auto)]
+
 ghost use Rattle.decimals.specs.Decimal.{InRange};
 
 const OUT: i32 = 1;

@@ -1,4 +1,6 @@
 // Numbers as words: read without a float, and then the nearest f64.
+#![tactic(auto)]
+
 mod digits;
 mod written;
 

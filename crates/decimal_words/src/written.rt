@@ -8,7 +8,7 @@ use crate::digits::{
 };
 
 // Whether a word spells a number, and which: digits times ten to `size`, or divided by it where `negative`; below zero where `minus`.
-#[derive(Drop)]
+#[derive(Clone, Copy)]
 pub struct Written {
     pub good: bool,
     pub minus: bool,
@@ -18,14 +18,14 @@ pub struct Written {
 }
 
 // The digits before the exponent as one number, and how many stand behind the point.
-#[derive(Drop)]
+#[derive(Clone, Copy)]
 pub struct Mantissa {
     pub good: bool,
     pub digits: u64,
     pub places: u64,
 }
 
-#[derive(Drop)]
+#[derive(Clone, Copy)]
 pub struct Exponent {
     pub good: bool,
     pub negative: bool,

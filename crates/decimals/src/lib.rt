@@ -1,4 +1,6 @@
 // The f64 nearest to a decimal, ties to even, from whole numbers alone.
+#![tactic(auto)]
+
 mod digits;
 mod ratios;
 mod wide;

@@ -6,7 +6,7 @@ ghost use Rattle.decimals.specs.Parts.{Divided, PatternOf};
 
 use crate::wide::{Wide, at_most, digit_of, twice};
 
-#[derive(Drop)]
+#[derive(Clone, Copy)]
 pub struct Raised {
     pub wide: Wide,
     pub by: u64,
@@ -27,7 +27,7 @@ fn raise(a: Wide, b: Wide) -> Raised
 }
 
 // n * 2^53 / m, for an n below m: its whole part and what is left.
-#[derive(Drop)]
+#[derive(Clone, Copy)]
 pub struct Division {
     pub q: u64,
     pub rest: Wide,

@@ -2,7 +2,7 @@
 ghost use Rattle.std.specs.Prelude.{◌≡◌, ℕ, ◌+◌, ◌-◌, ◌*◌, ◌^◌, ◌<◌, ◌≤◌, leb};
 ghost use Rattle.decimals.specs.Wide.{value};
 
-#[derive(Drop)]
+#[derive(Clone, Copy)]
 pub struct Wide {
     pub high: u64,
     pub low: u64,
@@ -42,7 +42,7 @@ pub fn at_most(a: Wide, b: Wide) -> bool
 }
 
 // One digit of a quotient, and what is left.
-#[derive(Drop)]
+#[derive(Clone, Copy)]
 pub struct Digit {
     pub rest: Wide,
     pub digit: u64,

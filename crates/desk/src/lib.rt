@@ -1,4 +1,6 @@
 // The solver as C and Rust call it (include/desk.h).
+#![tactic(auto)]
+
 ghost use Rattle.std.specs.Prelude.{◌≡◌};
 ghost use Rattle.answers.specs.Answers.{lent};
 ghost use Rattle.solver.specs.Solve.{solve_of};

@@ -1,4 +1,6 @@
 // An evening of rows as C and Rust call it (include/desk.h).
+#![tactic(auto)]
+
 ghost use Rattle.std.specs.Prelude.{◌≡◌};
 ghost use Rattle.rowwise.specs.Rooms.{lends};
 ghost use Rattle.rowwise.specs.Evening.{evening_of};

@@ -1,4 +1,6 @@
 // The start of a solve that is taken one trial at a time, as C and Rust call it (include/desk.h).
+#![tactic(auto)]
+
 ghost use Rattle.std.specs.Prelude.{◌≡◌};
 ghost use Rattle.held.specs.Held.{held};
 ghost use Rattle.held_start.specs.Start.{start_held};

@@ -1,4 +1,6 @@
 // One trial at a time, as C and Rust call it (include/desk.h); the start stands in desk_start.
+#![tactic(auto)]
+
 ghost use Rattle.std.specs.Prelude.{◌≡◌};
 ghost use Rattle.answers.specs.Answers.{lent};
 ghost use Rattle.held.specs.Held.{held};

@@ -1,4 +1,6 @@
 // An EPANET text made into a sheet, as C calls it (include/desk.h).
+#![tactic(auto)]
+
 ghost use Rattle.std.specs.Prelude.{◌≡◌};
 ghost use Rattle.from_text.specs.FromText.{from_text};
 ghost use Rattle.desk_text.specs.Told.{counts_of, told_of};

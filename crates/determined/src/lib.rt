@@ -1,4 +1,6 @@
 // Line 3 of the verdict: the lowest junction in service whose head nothing determines.
+#![tactic(auto)]
+
 ghost use Rattle.std.specs.Prelude.{◌≡◌, ◌<◌, ◌≤◌, length};
 ghost use Rattle.layout.specs.Places.{Laid};
 ghost use Rattle.links.specs.Links.{link_start, link_end, EndsIn};

@@ -1,5 +1,7 @@
 // Demand that gives way to pressure, by value: junction.rs `demand_coefficients` with pressure
 // exponent 0.5, so that its n is 2 and a power of n - 1 is its argument.
+#![tactic(auto)]
+
 ghost use Rattle.std.specs.Prelude.{◌≡◌};
 ghost use Rattle.drawing.specs.Drawing.{gives_way, counting, range_of, within, bend_of};
 
@@ -8,7 +10,7 @@ use float::larger;
 use records::Pressures;
 
 // The inverse of the gradient of a junction's head over its flow, and the head at that flow.
-#[derive(Drop)]
+#[derive(Clone, Copy)]
 pub struct Bend {
     pub conductance: f64,
     pub offset: f64,

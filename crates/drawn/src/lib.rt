@@ -1,4 +1,6 @@
 // hydraulicsolver.rs `update_demand_flows`: what each node draws after the heads, and what moved.
+#![tactic(auto)]
+
 ghost use Rattle.std.specs.Prelude.{◌≡◌, ◌<◌, ◌≤◌, length};
 ghost use Rattle.layout.specs.Places.{Laid};
 ghost use Rattle.drawn.specs.Drawn.{draws, change_of, bent, node_drawn, nodes_drawn, drawn_of};

@@ -1,4 +1,6 @@
 // Line 7 of the verdict: a drawn flow that is not what the node's pressure lets it draw.
+#![tactic(auto)]
+
 ghost use Rattle.std.specs.Prelude.{◌≡◌, ◌<◌, ◌≤◌, length};
 ghost use Rattle.layout.specs.Places.{Laid};
 ghost use Rattle.drawn_laws.specs.DrawnLaws.{fair_share, surplus_at, ill_at, first_ill, ill_drawn};

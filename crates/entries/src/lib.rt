@@ -1,4 +1,6 @@
 // What a trial leaves in the record, what the answer counts of it, and what follows an entry.
+#![tactic(auto)]
+
 ghost use Rattle.std.specs.Prelude.{◌≡◌, ◌+◌, ◌<◌, ◌≤◌};
 ghost use Rattle.entries.specs.Entries.{damping_start, going_of, counted};
 
@@ -9,7 +11,7 @@ use nodes::NodeIndex;
 
 // What a trial came to: VF, GN, SG, NF, ST (with the damping of the next trial) and OK, both with the
 // first change of status.
-#[derive(Drop)]
+#[derive(Clone, Copy)]
 pub enum Entry {
     Freed(LinkIndex),
     Grounded(NodeIndex),
@@ -20,7 +22,7 @@ pub enum Entry {
 }
 
 // How a run of trials ended: 0, 6, 7, 8.
-#[derive(Drop)]
+#[derive(Clone, Copy)]
 pub enum Ended {
     Balanced,
     Failed(NodeIndex),
@@ -29,13 +31,13 @@ pub enum Ended {
 }
 
 // Whether there is a trial after an entry.
-#[derive(Drop)]
+#[derive(Clone, Copy)]
 pub enum Going {
     On(Damping),
     Over(Ended),
 }
 
-#[derive(Drop)]
+#[derive(Clone, Copy)]
 pub struct Tally {
     pub trials: usize,
     pub freed: usize,

@@ -1,5 +1,6 @@
 // Reads an EPANET text of at most 2 MiB from standard input and writes the sheet and the names that are
 // made of it, or its refusal (document 02, [1]). A longer text gives a line `X`.
+#![tactic(auto)]
 
 // Room for a text, and one byte more, which shows that it is too long.
 fn room() -> [u8; 2097153] {

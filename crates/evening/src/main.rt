@@ -3,6 +3,8 @@
 // all is little-endian. Writes for each row a line `R row` and the row's listing, or the one `A` line of
 // a call that was refused; then a line `--`. A length above 65,536, more than 4,096 entries or an input
 // that is cut gives a line `X` and is the last.
+#![tactic(auto)]
+
 ghost use Rattle.std.specs.Prelude.{◌≤◌, length};
 
 use rowwise::Judging;

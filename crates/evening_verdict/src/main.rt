@@ -4,6 +4,8 @@
 // `R row`, its verdict as a line `V number place` and its listing, or the one `A` line of a call that was refused;
 // then a line `--`. A length above 65,536, more than 4,096 entries or an input that is cut gives a line `X` and is
 // the last.
+#![tactic(auto)]
+
 ghost use Rattle.std.specs.Prelude.{◌≤◌, length};
 
 use rowwise::Judging;

@@ -1,5 +1,7 @@
 // What flows into each node beyond its demand; and the excess flows, which are that where a PRV or
 // PSV is present.
+#![tactic(auto)]
+
 ghost use Rattle.std.specs.Prelude.{◌≡◌, ◌<◌, ◌≤◌, length};
 ghost use Rattle.layout.specs.Places.{Laid};
 ghost use Rattle.links.specs.Links.{EndsIn};

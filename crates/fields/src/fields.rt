@@ -8,7 +8,7 @@ use records::pair_at;
 
 // What a sheet may hold: at most so many nodes and links, trials, the greatest code of a unit, the
 // greatest magnitude of a number, and the least diameter of a valve.
-#[derive(Drop)]
+#[derive(Clone, Copy)]
 pub struct Bounds {
     pub nodes: usize,
     pub links: usize,

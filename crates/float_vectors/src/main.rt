@@ -1,6 +1,8 @@
 // Replays vectors over crates float and roots: records of 25 bytes on standard input, a function's
 // number and three numbers of eight bytes, and for each a line with the function's name, its
 // arguments and what it gave, floats as 16 hex digits.
+#![tactic(auto)]
+
 const OUT: i32 = 1;
 
 fn hex(x: f64) {

@@ -1,7 +1,8 @@
 // What a search finds.
+#![tactic(auto)]
 
 // A place, or nothing.
-#[derive(Drop)]
+#[derive(Clone, Copy)]
 pub enum Found {
     At(usize),
     Nothing,

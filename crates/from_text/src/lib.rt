@@ -1,4 +1,6 @@
 // An EPANET text made into a sheet and a list of names, for any bytes and any buffers (document 02, [1]).
+#![tactic(auto)]
+
 ghost use Rattle.std.specs.Prelude.{◌≡◌};
 ghost use Rattle.known.specs.Tables.{known_of, Tabled};
 ghost use Rattle.from_text.specs.FromText.{put_of, from_text};
@@ -9,7 +11,7 @@ use text_sheet::{put_names, put_sheet, room_behind, sheet_length};
 
 // 0 at 0: the sheet and the names were put, with so many nodes and links, so many bytes of each.
 // Else the refusal and its line (10, 11, 12), or 5 at 6, and all counts 0.
-#[derive(Drop)]
+#[derive(Clone, Copy)]
 pub struct Taken {
     pub number: usize,
     pub place: usize,

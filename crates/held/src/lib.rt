@@ -1,4 +1,6 @@
 // What a call tells, and how it is held between two trials. held_marks and held_numbers read what is held.
+#![tactic(auto)]
+
 ghost use Rattle.std.specs.Prelude.{◌≡◌};
 ghost use Rattle.held.specs.Held.{sums_of, counts_of, more, refusal};
 
@@ -8,7 +10,7 @@ use entries::Tally;
 
 // What a call tells: 0, a trial was taken or is to be taken, and more follow; 1, the answer; 2, refused,
 // and nothing changed. Of 0 the counts are those so far.
-#[derive(Drop)]
+#[derive(Clone, Copy)]
 pub struct Taken {
     pub how: usize,
     pub answer: Answer,

@@ -1,4 +1,6 @@
 // Line 6 of the verdict: an Active PRV or PSV that does not hold its node at the head it is set to.
+#![tactic(auto)]
+
 ghost use Rattle.std.specs.Prelude.{◌≡◌, ◌<◌, ◌≤◌, length};
 ghost use Rattle.layout.specs.Places.{Laid};
 ghost use Rattle.links.specs.Links.{EndsIn};

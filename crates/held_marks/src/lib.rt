@@ -1,4 +1,6 @@
 // The grounded marks as a caller holds them, there and back.
+#![tactic(auto)]
+
 ghost use Rattle.std.specs.Prelude.{◌≡◌, length};
 ghost use Rattle.held.specs.Held.{marks_in, marks_out};
 

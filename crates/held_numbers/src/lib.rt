@@ -1,4 +1,6 @@
 // What the sums and counts that a caller holds mean: the damping, the counts so far and the answer.
+#![tactic(auto)]
+
 ghost use Rattle.std.specs.Prelude.{◌≡◌};
 ghost use Rattle.held.specs.Held.{damping_in, tally_in, answer_in};
 

@@ -1,4 +1,6 @@
 // The start of a solve whose state the caller holds.
+#![tactic(auto)]
+
 ghost use Rattle.std.specs.Prelude.{◌≡◌};
 ghost use Rattle.held.specs.Held.{held};
 ghost use Rattle.held_start.specs.Start.{start_held};

@@ -1,6 +1,7 @@
 // Reads EPANET texts, each behind its length as a 4-byte little-endian number, and writes for each what
 // `epanet` would, followed by a line `--`. A length above 65,536 or an input that is cut gives a line `X`
 // and is the last.
+#![tactic(auto)]
 
 // One text, or false where there is none.
 fn step() -> bool {

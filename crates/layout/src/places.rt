@@ -14,7 +14,7 @@ pub const LK_SIZE: usize = 49;
 // What is known of a sheet that was read: how many nodes, links and unknowns it has, where its
 // first node and its first link stand, how far a link is from the next, and whether a PD stands
 // behind its OP.
-#[derive(Drop)]
+#[derive(Clone, Copy)]
 pub struct Layout {
     pub nodes: usize,
     pub links: usize,

@@ -1,6 +1,8 @@
 // Lends buffers of given lengths, filled with a pattern, to the solver, and writes the answer and what
 // changed in each buffer: its first changed entry and how many changed, or `-`. The input holds, again
 // and again, the six lengths as 2-byte little-endian numbers, the sheet's as a 4-byte one, and then the sheet.
+#![tactic(auto)]
+
 ghost use Rattle.std.specs.Prelude.{◌≤◌, length};
 
 use answers::Answer;
@@ -12,7 +14,7 @@ const FLOAT: f64 = 1234567.890625;
 
 const BYTE: u8 = 255;
 
-#[derive(Drop)]
+#[derive(Clone, Copy)]
 struct Lengths {
     heads: usize,
     demands: usize,

@@ -1,4 +1,6 @@
 // What a line is refused with, given what is known before it; 0 where it is not.
+#![tactic(auto)]
+
 ghost use Rattle.std.specs.Prelude.{◌≡◌, ◌<◌, get_or};
 ghost use Rattle.line_words.specs.Words.{words_of};
 ghost use Rattle.word_places.specs.Places.{Words};

@@ -1,4 +1,6 @@
 // What the words of a line are, by their number: a name, a number, a keyword; and what a line is refused with.
+#![tactic(auto)]
+
 ghost use Rattle.std.specs.Prelude.{◌≡◌, ◌<◌};
 ghost use Rattle.line_words.specs.Words.{words_of};
 ghost use Rattle.word_places.specs.Places.{Words};

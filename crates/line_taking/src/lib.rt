@@ -1,4 +1,6 @@
 // What a line that is not refused makes known.
+#![tactic(auto)]
+
 ghost use Rattle.std.specs.Prelude.{◌≡◌, [], ◌∷◌, ◌++◌, ◌+◌, ◌*◌, ◌<◌, ◌≤◌, length};
 ghost use Rattle.lines.specs.Lines.{passage, line_at};
 ghost use Rattle.line_words.specs.Words.{words_of};

@@ -1,10 +1,12 @@
 // The words of a line, by their places in it.
+#![tactic(auto)]
+
 ghost use Rattle.std.specs.Prelude.{◌≡◌, ◌+◌, ◌≤◌, length, drop};
 ghost use Rattle.lines.specs.Lines.{stretch};
 ghost use Rattle.line_words.specs.Words.{is_blank, not_blank, ends_word, word_from};
 
 // From where up to where a word stands; both are the line's length where there is none.
-#[derive(Drop)]
+#[derive(Clone, Copy)]
 pub struct Word {
     pub start: usize,
     pub end: usize,

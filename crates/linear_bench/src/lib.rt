@@ -1,5 +1,7 @@
 // Crates linear and substitution as C calls them, for bench/linear alone: bench/linear.c lends
 // 4,096 numbers.
+#![tactic(auto)]
+
 ghost use Rattle.std.specs.Prelude.{◌≡◌, ◌≤◌, length};
 ghost use Rattle.linear.specs.Factorization.{factor_of};
 ghost use Rattle.substitution.specs.Substitution.{solved};

@@ -1,6 +1,8 @@
 // Replays systems over crates linear and substitution. On standard input, for each: a byte n, the
 // lower triangle by columns, the right side. For each it writes n, the triangle as the factorization
 // left it, a line a column, and then X with the solution or S with the unknown at which it stopped.
+#![tactic(auto)]
+
 ghost use Rattle.std.specs.Prelude.{◌≡◌, ◌≤◌, length};
 
 use linear::Factored;

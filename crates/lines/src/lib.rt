@@ -1,9 +1,11 @@
 // The lines of a text, by their places in it.
+#![tactic(auto)]
+
 ghost use Rattle.std.specs.Prelude.{◌≡◌, ◌+◌, ◌≤◌, length, drop};
 ghost use Rattle.lines.specs.Lines.{stretch, is_newline, end_of, line_at};
 
 // A line that begins at some place: its end, where the next line begins, and whether it is the last one.
-#[derive(Drop)]
+#[derive(Clone, Copy)]
 pub struct Line {
     pub end: usize,
     pub next: usize,

@@ -1,4 +1,6 @@
 // Line 5 of the verdict: would a link's own law move its flow?
+#![tactic(auto)]
+
 ghost use Rattle.std.specs.Prelude.{◌≡◌, ◌<◌, ◌≤◌, length};
 ghost use Rattle.power.specs.Tables.{power_table};
 ghost use Rattle.layout.specs.Places.{Laid};

@@ -1,4 +1,6 @@
 // One link's part of the matrix and the right side, with its coefficients and its ends' rows.
+#![tactic(auto)]
+
 ghost use Rattle.std.specs.Prelude.{◌≡◌, ◌<◌, ◌≤◌, length};
 ghost use Rattle.power.specs.Tables.{power_table};
 ghost use Rattle.layout.specs.Places.{Laid};

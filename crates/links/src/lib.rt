@@ -1,5 +1,7 @@
 // The links of a sheet: their fields by (sheet, layout, index). No other crate knows where in a
 // link's record a field stands, but for those that do the reading.
+#![tactic(auto)]
+
 ghost use Rattle.std.specs.Prelude.{◌≡◌, ◌<◌};
 ghost use Rattle.layout.specs.Places.{Laid};
 ghost use Rattle.links.specs.Links.{link_of, link_start, link_end, link_status, regulator};
@@ -8,7 +10,7 @@ use layout::{Layout, link_place};
 use records::{Link, link_at, pair_at};
 
 // A link, by its number.
-#[derive(Drop)]
+#[derive(Clone, Copy)]
 pub struct LinkIndex(pub usize);
 
 // The whole record of link j.

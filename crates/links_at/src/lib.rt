@@ -1,4 +1,6 @@
 // A sheet's links at each of its nodes.
+#![tactic(auto)]
+
 ghost use Rattle.std.specs.Prelude.{◌≡◌, ◌++◌, suc, ◌*◌, ◌<◌, ◌≤◌, length, drop};
 ghost use Rattle.layout.specs.Places.{Laid};
 ghost use Rattle.links.specs.Links.{link_start, link_end};

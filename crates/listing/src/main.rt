@@ -1,6 +1,8 @@
 // Reads a network sheet from standard input and writes its listing (document 01, "The listing
 // program"). A sheet of 65,536 bytes or more is longer than any good one: it is read to its end in
 // parts, and gets refusal 1 or 2.
+#![tactic(auto)]
+
 ghost use Rattle.std.specs.Prelude.{◌≤◌, length};
 ghost use Rattle.stream.specs.Stream.{count_of};
 

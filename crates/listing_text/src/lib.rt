@@ -1,4 +1,6 @@
 // The listing of a sheet, composed into a lent buffer (document 01, "The listing program").
+#![tactic(auto)]
+
 ghost use Rattle.std.specs.Prelude.{◌≡◌, ◌*◌, ◌≤◌, length};
 ghost use Rattle.sheet.specs.Read.{read_of};
 ghost use Rattle.words.specs.Buffer.{placed, Put};

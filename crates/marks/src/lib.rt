@@ -1,4 +1,6 @@
 // The trial record: an entry a trial, four bytes each.
+#![tactic(auto)]
+
 ghost use Rattle.std.specs.Prelude.{◌≡◌, ◌+◌, ◌*◌, ◌<◌, ◌≤◌, length};
 ghost use Rattle.marks.specs.Marks.{mark_of, put_of};
 
@@ -6,7 +8,7 @@ use causes::flip_number;
 use entries::Entry;
 
 // Two letters and a number.
-#[derive(Drop)]
+#[derive(Clone, Copy)]
 pub struct Mark(pub u8, pub u8, pub usize);
 
 // The mark and the number of an entry.

@@ -1,5 +1,7 @@
 // The list of links at each node after one link's ends are edited: only what lies between the nodes
 // that it left and those that it came to is moved.
+#![tactic(auto)]
+
 ghost use Rattle.std.specs.Prelude.{◌≡◌, ◌++◌, ℕ, suc, ◌+◌, ◌<◌, ◌≤◌, length, get_or, set, drop};
 ghost use Rattle.touching.specs.Touching.{in_column, place_of, places_of, listed_of, Joined, Listed};
 ghost use Rattle.mending.specs.Mending.{Sought, Lowered, Raised, Less, More, Goes, Mended};

@@ -1,6 +1,8 @@
 // Replays vectors over crate model: records of 76 bytes on standard input, four small numbers and
 // nine f64s, and for each a line with what the function named by the first number gave. Floats are
 // 16 hex digits, `-` stands for an absent part.
+#![tactic(auto)]
+
 ghost use Rattle.std.specs.Prelude.{◌≡◌};
 ghost use Rattle.power.specs.Tables.{power_table};
 
@@ -11,7 +13,7 @@ use status::Change;
 const OUT: i32 = 1;
 
 // What a record holds: codes and flags, and the floats in order.
-#[derive(Drop)]
+#[derive(Clone, Copy)]
 struct Case {
     what: u8,
     kind: u8,

@@ -1,4 +1,6 @@
 // The lines that define a name, kept in a lent table: five numbers a line.
+#![tactic(auto)]
+
 ghost use Rattle.std.specs.Prelude.{◌≡◌, ◌+◌, ◌*◌, ◌<◌, ◌≤◌, length, set};
 ghost use Rattle.named_lines.specs.Named.{Kept, position_of, rows_of, row_put};
 

@@ -1,5 +1,7 @@
 // The nodes of a sheet: their fields by (sheet, layout, index). No other crate knows where in a
 // node's record a field stands, but for those that do the reading.
+#![tactic(auto)]
+
 ghost use Rattle.std.specs.Prelude.{◌≡◌, ◌<◌};
 ghost use Rattle.layout.specs.Places.{Laid};
 ghost use Rattle.nodes.specs.Nodes.{node_of, enabled, fixed_node, in_service, tank_at, elevation_of, serving};
@@ -9,7 +11,7 @@ use patterns::from_bytes;
 use records::{Node, node_at};
 
 // A node, by its number.
-#[derive(Drop)]
+#[derive(Clone, Copy)]
 pub struct NodeIndex(pub usize);
 
 // The whole record of node i.

@@ -1,5 +1,7 @@
 // Junctions in service are numbered as unknowns in node order. A node's number and an unknown's
 // number are separate kinds of index, so that node rows and matrix rows cannot be confused.
+#![tactic(auto)]
+
 ghost use Rattle.std.specs.Prelude.{◌≡◌, ◌<◌, ◌≤◌, length};
 ghost use Rattle.layout.specs.Places.{Laid};
 ghost use Rattle.numbering.specs.Numbering.{numbered, row_of, RowsRight, node_numbered, found_by};
@@ -9,7 +11,7 @@ use linear::UnknownIndex;
 use nodes::NodeIndex;
 
 // What a node is in the matrix: an unknown, or none of its rows.
-#[derive(Drop)]
+#[derive(Clone, Copy)]
 pub enum Row {
     Unknown(UnknownIndex),
     Fixed,

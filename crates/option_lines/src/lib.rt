@@ -1,4 +1,6 @@
 // The lines of OPTIONS: a key of one word or of two, and what each is refused with.
+#![tactic(auto)]
+
 ghost use Rattle.std.specs.Prelude.{◌≡◌, ◌<◌};
 ghost use Rattle.line_words.specs.Words.{words_of};
 ghost use Rattle.word_places.specs.Places.{Words};

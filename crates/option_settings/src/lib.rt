@@ -1,4 +1,6 @@
 // What a line of OPTIONS sets.
+#![tactic(auto)]
+
 ghost use Rattle.std.specs.Prelude.{◌≡◌};
 ghost use Rattle.line_words.specs.Words.{words_of};
 ghost use Rattle.word_places.specs.Places.{Words};

@@ -1,4 +1,6 @@
 // What an option may be set to, besides a number: a flow unit and a count.
+#![tactic(auto)]
+
 ghost use Rattle.std.specs.Prelude.{◌≡◌};
 ghost use Rattle.decimal_words.specs.Numbers.{is_digit};
 ghost use Rattle.option_values.specs.Values.{unit_of, count_of};

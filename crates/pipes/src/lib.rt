@@ -1,4 +1,6 @@
 // A pipe's coefficients by Hazen-Williams.
+#![tactic(auto)]
+
 ghost use Rattle.std.specs.Prelude.{◌≡◌};
 ghost use Rattle.power.specs.Tables.{power_table};
 ghost use Rattle.pipes.specs.Pipe.{friction_of, with_minor, with_barrier, pipe_of};
@@ -11,7 +13,7 @@ use records::Status;
 use roots::root;
 
 // A head loss and its gradient, for the flow's magnitude.
-#[derive(Drop)]
+#[derive(Clone, Copy)]
 pub struct Loss {
     pub hgrad: f64,
     pub hloss: f64,

@@ -1,5 +1,7 @@
 // Replays vectors over crate power: f64s x of eight bytes on standard input, and for each a line with x, x^0.852, x^0.871 and
 // x^4 times x^0.871, as 16 hex digits.
+#![tactic(auto)]
+
 ghost use Rattle.std.specs.Prelude.{◌≡◌};
 ghost use Rattle.power.specs.Tables.{power_table, power_table871};
 

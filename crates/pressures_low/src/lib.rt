@@ -1,4 +1,6 @@
 // Line 8 of the verdict: a pressure too low to be sold.
+#![tactic(auto)]
+
 ghost use Rattle.std.specs.Prelude.{◌≡◌, ◌<◌, ◌≤◌, length};
 ghost use Rattle.layout.specs.Places.{Laid};
 ghost use Rattle.pressures_low.specs.Low.{too_low, low_at, low_of};

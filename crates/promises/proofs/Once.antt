@@ -49,7 +49,7 @@ module _ (s : List ℕ) (l : Layout) where
       ∙ ap (λ (o : Outcome). get_or o.state.grounded v false) (trial_grounds s l at.damping at.state v g)
       ∙ get_or-set_same at.state.grounded v true false (omega (arith, (room_after s l right i p w).grounded, (stop_node_lem s l right at.state v g.stops).0))
 
-  -- so no two entries of a run ground_node one node. For every number of nodes, links and trials.
+  -- so no two entries of a run ground one node. For every number of nodes, links and trials.
   pub grounded_once : l.unknowns ≡ serving s l l.nodes → (m : ℕ) (p : Point) → Room l p.state → (v : NodeIndex) (i j : ℕ) → i < j → j < length (run_at s l m p).entries
       → get_or (run_at s l m p).entries i no_entry ≡ Grounded v → get_or (run_at s l m p).entries j no_entry ≡ Grounded v → ⊥
   grounded_once right m p w v i j z h a b =

@@ -203,7 +203,7 @@ abbrev pub SolveRepairsEnd : Type 0
 SolveRepairsEnd =
     (s : List ℕ) (l : Layout) → read_of s ≡ Good l → (i : ℕ) → failing (drop i (run_in s l).entries) ≤ active s l (point_in s l i).state + serving s l l.nodes + 1
 
--- no two entries ground_node one node
+-- no two entries ground one node
 abbrev pub SolveGroundedOnce : Type 0
 SolveGroundedOnce =
     (s : List ℕ) (l : Layout) → read_of s ≡ Good l → (v : NodeIndex) (i j : ℕ) → i < j → j < length (run_in s l).entries

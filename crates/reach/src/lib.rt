@@ -1,4 +1,6 @@
 // Which nodes are joined to a held node by conducting links, and the lowest node that needs to be and is not.
+#![tactic(auto)]
+
 ghost use Rattle.std.specs.Prelude.{◌≡◌, ◌<◌, ◌≤◌, length, get_or};
 ghost use Rattle.found.specs.Searches.{first_of};
 ghost use Rattle.reach.specs.Reach.{marks, passed, follows, followed, stirred, swept, sweeps, EndsBelow, lacks};

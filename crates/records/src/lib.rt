@@ -1,4 +1,6 @@
 // The records of the network sheet by value, and their codes.
+#![tactic(auto)]
+
 mod records;
 
 pub use codes::{LinkKind, NodeKind, Status, link_kind, status_code, status_of};

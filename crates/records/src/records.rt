@@ -6,7 +6,7 @@ use codes::{LinkKind, NodeKind, Status, link_kind, node_kind, status_of};
 use patterns::{from_bytes, two_bytes};
 
 // OP: accuracy, damping limit, max flow change, trials, flow unit.
-#[derive(Drop)]
+#[derive(Clone, Copy)]
 pub struct Options {
     pub accuracy: f64,
     pub damping: f64,
@@ -16,14 +16,14 @@ pub struct Options {
 }
 
 // PD: minimum and required pressure.
-#[derive(Drop)]
+#[derive(Clone, Copy)]
 pub struct Pressures {
     pub minimum: f64,
     pub required: f64,
 }
 
 // ND: kind, disabled, elevation, demand, head, max level, min level, overflow.
-#[derive(Drop)]
+#[derive(Clone, Copy)]
 pub struct Node {
     pub kind: NodeKind,
     pub disabled: bool,
@@ -36,7 +36,7 @@ pub struct Node {
 }
 
 // LK: kind, check valve, status, start, end, setting, minor loss, diameter, resistance, flow.
-#[derive(Drop)]
+#[derive(Clone, Copy)]
 pub struct Link {
     pub kind: LinkKind,
     pub check: bool,

@@ -1,4 +1,6 @@
 // Why a sheet is refused.
+#![tactic(auto)]
+
 mod refusals;
 
 pub use refusals::{Refusal, refusal_number, refusal_place};

@@ -3,7 +3,7 @@ ghost use Rattle.std.specs.Prelude.{◌≡◌};
 ghost use Rattle.refusals.specs.Refusals.{number_of, place_of};
 
 // Why a sheet is refused, with the offset of the record at fault.
-#[derive(Drop)]
+#[derive(Clone, Copy)]
 pub enum Refusal {
     Unreadable(usize),
     NodeCount,

@@ -1,6 +1,8 @@
 // Demand 3: when a factorization fails at a node, the lowest-numbered Active PRV or PSV touching it
 // is freed; if none touches it, the node is grounded, once per solve; if it is grounded already the
 // solve is refused naming it.
+#![tactic(auto)]
+
 ghost use Rattle.std.specs.Prelude.{◌≡◌, ◌<◌, ◌≤◌, ◌&&◌, eqb, length, get_or};
 ghost use Rattle.layout.specs.Places.{Laid};
 ghost use Rattle.links.specs.Links.{regulator};

@@ -1,1 +1,2 @@
 // No code: the statements stand in specs/, the theorems in proofs/.
+#![tactic(auto)]

@@ -1,5 +1,7 @@
 // Line 2 of the verdict: whether a record shows a repair, and where first. It is read from the bytes
 // that were handed out, as a caller would read them.
+#![tactic(auto)]
+
 ghost use Rattle.std.specs.Prelude.{◌≡◌, ◌+◌, ◌*◌, ◌<◌, ◌≤◌, length};
 ghost use Rattle.repairs_shown.specs.Shown.{shows, repair_shown};
 

@@ -1,6 +1,7 @@
 // Reads sheets, each behind its length as a 4-byte little-endian number, and writes the listing of
 // each, followed by a line `--`. A length above 65,536 or an input that is cut gives a line `X` and
 // is the last.
+#![tactic(auto)]
 
 fn show(sheet: &[u8]) -> bool {
     let mut out = io::large_buffer();

@@ -1,5 +1,7 @@
 // The result lines of the listing: nodes, links and the balance. Each function puts its text at a
 // position of a lent buffer and gives the position after it. A line takes at most 128 bytes.
+#![tactic(auto)]
+
 ghost use Rattle.std.specs.Prelude.{◌≡◌, ◌+◌, ◌*◌, ◌≤◌, length};
 ghost use Rattle.words.specs.Buffer.{placed};
 ghost use Rattle.results.specs.Lines.{node_lines, link_lines, balance_line};

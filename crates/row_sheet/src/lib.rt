@@ -1,4 +1,6 @@
 // A row of demands put into a sheet. It knows where a node's demand stands, as records does, which reads it.
+#![tactic(auto)]
+
 ghost use Rattle.std.specs.Prelude.{◌≡◌, ◌+◌, ◌*◌, ◌^◌, ◌≤◌, ◌<◌, length};
 ghost use Rattle.layout.specs.Places.{Laid, node_place};
 ghost use Rattle.row_sheet.specs.RowSheet.{number_put, row_sheet, bad_demand};

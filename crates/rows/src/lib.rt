@@ -1,4 +1,6 @@
 // One entry of the matrix or of the right side, by the rows of the nodes.
+#![tactic(auto)]
+
 ghost use Rattle.std.specs.Prelude.{◌≡◌, ◌≤◌, length};
 ghost use Rattle.numbering.specs.Numbering.{RowBelow};
 ghost use Rattle.rows.specs.Rows.{on_row, off_row, on_diagonal, off_between};

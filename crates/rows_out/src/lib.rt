@@ -1,5 +1,7 @@
 // An evening's rows, written to standard output: for each a line `R row`, with limits the line `V number place`
 // of its verdict, and its listing; or the one `A` line of a call that was refused; then a line `--`.
+#![tactic(auto)]
+
 ghost use Rattle.std.specs.Prelude.{◌*◌, ◌≤◌, ◌<◌, length};
 
 use answers::Answer;
@@ -7,7 +9,7 @@ use rowwise::{Called, Judging};
 use sheet::Reading;
 
 // How many nodes, links, trials and rows there are, and whether each row has a verdict.
-#[derive(Drop)]
+#[derive(Clone, Copy)]
 struct Sizes {
     nodes: usize,
     links: usize,

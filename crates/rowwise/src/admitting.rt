@@ -5,14 +5,14 @@ ghost use Rattle.rowwise.specs.Evening.{lacking, admitted_of};
 use layout::Layout;
 
 // 0 at 0: every row was solved. Else the refusal of the whole call, and its place.
-#[derive(Drop)]
+#[derive(Clone, Copy)]
 pub struct Called {
     pub number: usize,
     pub place: usize,
 }
 
 // How long the table and the buffers are.
-#[derive(Drop)]
+#[derive(Clone, Copy)]
 pub struct Lengths {
     pub table: usize,
     pub heads: usize,

@@ -17,7 +17,7 @@ use sheet::Reading;
 use tolerance::Limits;
 
 // Whether each row is judged too, and by which limits.
-#[derive(Drop)]
+#[derive(Clone, Copy)]
 pub enum Judging {
     Off,
     By(Limits),

@@ -1,4 +1,6 @@
 // One trial with its entry, and trials until one ends the run, at most as many as the sheet allows.
+#![tactic(auto)]
+
 ghost use Rattle.std.specs.Prelude.{◌≡◌, ◌+◌, ◌*◌, ◌<◌, ◌≤◌, length};
 ghost use Rattle.power.specs.Tables.{power_table};
 ghost use Rattle.columns.specs.Columns.{zeros};
@@ -15,14 +17,14 @@ use entries::{Ended, Going, Tally, count, damping_start, go};
 use layout::Layout;
 use marks::{marked, put};
 
-#[derive(Drop)]
+#[derive(Clone, Copy)]
 pub struct Ran {
     pub ended: Ended,
     pub tally: Tally,
 }
 
 // What follows a trial, and the tally with it.
-#[derive(Drop)]
+#[derive(Clone, Copy)]
 pub struct Turn {
     pub going: Going,
     pub tally: Tally,

@@ -9,7 +9,7 @@ use layout::Layout;
 use tolerance::Limits;
 
 // 0 at 0: it may be sold. Else the line of the rule that holds, and where.
-#[derive(Drop)]
+#[derive(Clone, Copy)]
 pub struct Verdict {
     pub number: usize,
     pub place: usize,

@@ -12,7 +12,7 @@ use sheet::Reading;
 use tolerance::Limits;
 
 // What a solve came to, and whether it may be sold.
-#[derive(Drop)]
+#[derive(Clone, Copy)]
 pub struct Sold {
     pub answer: Answer,
     pub verdict: Verdict,

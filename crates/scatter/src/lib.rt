@@ -1,4 +1,6 @@
 // What one link adds to the matrix and to the right side.
+#![tactic(auto)]
+
 ghost use Rattle.std.specs.Prelude.{◌≡◌, ◌≤◌, length};
 ghost use Rattle.numbering.specs.Numbering.{RowBelow};
 ghost use Rattle.scatter.specs.Scatter.{given_diagonal, given_row, fixed_term, link_matrix, link_row};

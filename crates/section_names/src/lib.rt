@@ -1,11 +1,13 @@
 // The sections of a text by their headers.
+#![tactic(auto)]
+
 ghost use Rattle.std.specs.Prelude.{◌≡◌};
 ghost use Rattle.section_names.specs.Sections.{is_header, passed_over, section_of};
 
 use spelled::spells;
 
 // Where a line stands: before any section, in one of the seven that are carried, in one that is passed over, or in any other.
-#[derive(Drop)]
+#[derive(Clone, Copy)]
 pub enum Section {
     Before,
     Junctions,

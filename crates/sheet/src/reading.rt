@@ -13,7 +13,7 @@ use nodes::count_serving;
 use refusals::Refusal;
 
 // The layout of a sheet, or why it is refused.
-#[derive(Drop)]
+#[derive(Clone, Copy)]
 pub enum Reading {
     Good(Layout),
     Refused(Refusal),

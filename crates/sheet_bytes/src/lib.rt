@@ -1,5 +1,7 @@
 // The records of a sheet as bytes in a lent buffer: what crate records reads. Each function puts its
 // bytes at a position and gives the position after them.
+#![tactic(auto)]
+
 ghost use Rattle.std.specs.Prelude.{◌≡◌, [], ◌∷◌, ◌++◌, ◌+◌, ◌≤◌, length};
 ghost use Rattle.codes.specs.Codes.{node_code, link_code, status_code};
 ghost use Rattle.words.specs.Buffer.{Put};

@@ -1,4 +1,6 @@
 // The line before a sheet that was made of a text: how many nodes and links it has, and how many bytes.
+#![tactic(auto)]
+
 ghost use Rattle.std.specs.Prelude.{◌≡◌, ◌+◌, ◌≤◌, length};
 ghost use Rattle.words.specs.Buffer.{placed};
 ghost use Rattle.sheet_line.specs.Line.{sheet_line};

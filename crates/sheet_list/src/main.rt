@@ -1,5 +1,6 @@
 // Reads sheets, each behind its length as a 4-byte little-endian number, and writes a line for each:
 // `G` and the counts of nodes and links, or `R` and the refusal's number and place.
+#![tactic(auto)]
 
 const OUT: i32 = 1;
 

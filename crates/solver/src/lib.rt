@@ -1,4 +1,6 @@
 // The whole solve, for any sheet and any buffers.
+#![tactic(auto)]
+
 ghost use Rattle.std.specs.Prelude.{◌≡◌, ◌*◌, ◌≤◌, length};
 ghost use Rattle.power.specs.Tables.{power_table};
 ghost use Rattle.sheet.specs.Read.{read_of};

@@ -1,4 +1,6 @@
 // Whether a word is a keyword, in capitals or not, and whether two words are the same.
+#![tactic(auto)]
+
 ghost use Rattle.std.specs.Prelude.{◌≡◌};
 ghost use Rattle.spelled.specs.Spelled.{capital_of, spelled_as, same_bytes};
 

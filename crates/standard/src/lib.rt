@@ -1,6 +1,8 @@
 // Standard input and output for the programs. A read that fails is told from the end of the input, and a write
 // that fails is seen: one line on standard error says so and standard output is closed, so that nothing comes
 // behind it. status.c makes the exit status of that, since a `main` of Rattle's has none to give.
+#![tactic(auto)]
+
 ghost use Rattle.std.specs.Prelude.{◌+◌, ◌≤◌, ◌≡◌, length};
 ghost use Rattle.io.specs.Counts.{IsPrefixLen};
 ghost use Rattle.standard.specs.Standard.{failed_of, item_of};
@@ -12,14 +14,14 @@ const OUT: i32 = 1;
 const ERR: i32 = 2;
 
 // How many bytes were read, and whether a read failed behind them.
-#[derive(Drop)]
+#[derive(Clone, Copy)]
 pub struct Filled {
     pub count: usize,
     pub failed: bool,
 }
 
 // The length of the sheet that was read, or that there is none.
-#[derive(Drop)]
+#[derive(Clone, Copy)]
 pub struct Next {
     pub size: usize,
     pub none: bool,

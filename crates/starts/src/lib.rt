@@ -1,4 +1,6 @@
 // state.rs: the columns that a solve starts from, whole.
+#![tactic(auto)]
+
 ghost use Rattle.std.specs.Prelude.{◌≡◌, false, ◌≤◌, replicate};
 ghost use Rattle.layout.specs.Places.{Laid};
 ghost use Rattle.state.specs.State.{state};

@@ -1,4 +1,6 @@
 // state.rs: the columns of a solve, what they start from, and the heads that a step puts in.
+#![tactic(auto)]
+
 ghost use Rattle.std.specs.Prelude.{◌≡◌, ◌<◌, ◌≤◌, length};
 ghost use Rattle.layout.specs.Places.{Laid};
 ghost use Rattle.numbering.specs.Numbering.{RowsRight, RowBelow};

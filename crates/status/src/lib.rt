@@ -1,4 +1,6 @@
 // The changes of a link's status (document 01, item 5): pipe.rs, valve.rs and link.rs; and why (document 02, [2]).
+#![tactic(auto)]
+
 ghost use Rattle.std.specs.Prelude.{◌≡◌};
 ghost use Rattle.status.specs.Rules.{becomes_if, closed_if_negative, pipe_status, prv_status, psv_status, updated_of, is_active};
 
@@ -7,7 +9,7 @@ use constants::{H_TOL, Q_TOL};
 use records::{LinkKind, Status};
 
 // The new status of a link and its cause, if a rule gives one.
-#[derive(Drop)]
+#[derive(Clone, Copy)]
 pub enum Change {
     Stays,
     Becomes(Status, Cause),

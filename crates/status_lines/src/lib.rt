@@ -1,4 +1,6 @@
 // The lines of STATUS: what each is refused with by its words alone, and what one without a fault says.
+#![tactic(auto)]
+
 ghost use Rattle.std.specs.Prelude.{◌≡◌};
 ghost use Rattle.line_words.specs.Words.{words_of};
 ghost use Rattle.word_places.specs.Places.{Words};

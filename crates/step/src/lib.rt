@@ -1,5 +1,7 @@
 // A trial's step once its matrix is factored: heads, flows and statuses, tank links, drawn
 // flows, then what it comes to.
+#![tactic(auto)]
+
 ghost use Rattle.std.specs.Prelude.{◌≡◌, ◌≤◌, length};
 ghost use Rattle.numbering.specs.Numbering.{RowsRight};
 ghost use Rattle.links_at.specs.LinksAt.{LinksAt};

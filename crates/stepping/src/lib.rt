@@ -1,4 +1,6 @@
 // One trial of a solve whose state the caller holds.
+#![tactic(auto)]
+
 ghost use Rattle.std.specs.Prelude.{◌≡◌};
 ghost use Rattle.sheet.specs.Read.{read_of};
 ghost use Rattle.trial.specs.Trial.{repair_of};

@@ -1,5 +1,7 @@
 // Reads sheets and writes their listings as `replay` does, one trial at a time; then takes one trial
 // more, which must tell the same and change nothing: where it does not, a line `X` comes first.
+#![tactic(auto)]
+
 use answers::Answer;
 use held::Taken;
 

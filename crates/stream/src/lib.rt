@@ -1,5 +1,7 @@
 // The layout of a sheet read byte by byte, for sheets too long to be held: such a sheet is longer
 // than any good one, and only refusals 1 and 2 are possible.
+#![tactic(auto)]
+
 ghost use Rattle.std.specs.Prelude.{◌≡◌, ◌+◌, ◌≤◌, ◌<◌, length};
 ghost use Rattle.words.specs.Buffer.{placed};
 ghost use Rattle.stream.specs.Stream.{fits, in_links, in_nodes, at_nodes, in_pressures, at_pressures, in_options, step_of, fed_of, count_of, end_in_nodes, end_in_links, refusal_of, line_of};
@@ -9,7 +11,7 @@ use refusals::Refusal;
 
 // What was read so far: whether a PD, how many whole nodes and links, and how many bytes of the
 // next record. Once a record can't be read, its offset. Behind the OP, `Pressures` waits for a PD.
-#[derive(Drop)]
+#[derive(Clone, Copy)]
 pub enum Progress {
     Options(usize),
     Pressures(usize),

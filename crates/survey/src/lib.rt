@@ -1,4 +1,6 @@
 // All lines of a text, until one is refused.
+#![tactic(auto)]
+
 ghost use Rattle.std.specs.Prelude.{◌≡◌, length};
 ghost use Rattle.known.specs.Tables.{known_of, Tabled};
 ghost use Rattle.known.specs.Known.{survey_of};
@@ -12,7 +14,7 @@ use text_settings::default_settings;
 use word_places::word_places;
 
 // The number and the line of the first refusal, or 0 and 0; and how far the reading came.
-#[derive(Drop)]
+#[derive(Clone, Copy)]
 pub struct Surveyed {
     pub number: u64,
     pub line: usize,

@@ -1,4 +1,6 @@
 // The two tables of x^0.852 as one, those of x^0.871 as another, and their entries.
+#![tactic(auto)]
+
 mod tables;
 mod tables_871;
 

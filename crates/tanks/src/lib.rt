@@ -1,4 +1,6 @@
 // hydraulicsolver.rs `update_tank_links`: the links at tanks, shut by the tank's level; a tank's demand is its net inflow.
+#![tactic(auto)]
+
 ghost use Rattle.std.specs.Prelude.{◌≡◌, ◌<◌, ◌≤◌, length};
 ghost use Rattle.layout.specs.Places.{Laid};
 ghost use Rattle.links_at.specs.LinksAt.{LinksAt};

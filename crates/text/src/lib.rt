@@ -1,5 +1,7 @@
 // The first lines of the listing: the answer and the record of the trials. Each function puts its
 // text at a position of a lent buffer and gives the position after it. A line takes at most 128 bytes.
+#![tactic(auto)]
+
 ghost use Rattle.std.specs.Prelude.{◌≡◌, ◌+◌, ◌*◌, ◌≤◌, length};
 ghost use Rattle.words.specs.Buffer.{placed};
 ghost use Rattle.text.specs.Lines.{answer_line, record_lines};

@@ -1,5 +1,7 @@
 // What becomes of an EPANET text, written to standard output: `A number line 0 0 0` where it is refused;
 // else `S nodes links bytes`, the sheet's bytes, and the names, one a line.
+#![tactic(auto)]
+
 ghost use Rattle.std.specs.Prelude.{◌≤◌};
 
 use from_text::Taken;

@@ -1,10 +1,12 @@
 // What the options of a text come to, and what holds where it says nothing.
+#![tactic(auto)]
+
 ghost use Rattle.std.specs.Prelude.{◌≡◌};
 ghost use Rattle.text_settings.specs.Settings.{default_settings};
 
 // The code of the flow unit, TRIALS, ACCURACY, DAMPLIMIT, FLOWCHANGE, DEMAND MULTIPLIER, whether DEMAND MODEL is PDA,
 // MINIMUM PRESSURE and REQUIRED PRESSURE, all in the text's units.
-#[derive(Drop)]
+#[derive(Clone, Copy)]
 pub struct Settings {
     pub unit: usize,
     pub trials: usize,

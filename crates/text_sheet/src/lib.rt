@@ -1,4 +1,6 @@
 // The sheet of an EPANET text, and the list of its names, put into lent buffers.
+#![tactic(auto)]
+
 mod names;
 mod parts;
 

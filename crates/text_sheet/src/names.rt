@@ -8,7 +8,7 @@ use sheet_bytes::put_text;
 use words::put_byte;
 
 // Whether the names fit into so many bytes, and how many are left behind them; 0 where they do not fit.
-#[derive(Drop)]
+#[derive(Clone, Copy)]
 pub struct Room {
     pub fits: bool,
     pub left: usize,

@@ -1,4 +1,6 @@
 // The figures of an EPANET text in feet and cubic feet per second: units.rs, and what link.rs and pipe.rs make of them. Each operation is the Rust's, in its order.
+#![tactic(auto)]
+
 ghost use Rattle.std.specs.Prelude.{◌≡◌};
 ghost use Rattle.power.specs.Tables.{power_table, power_table871};
 ghost use Rattle.text_units.specs.Units.{units_of, feet_of, diameter_feet, pressure_feet, cubic_feet, resistance_of, first_flow};
@@ -11,7 +13,7 @@ const MperFT: f64 = 0.3048;
 const PSIperFT: f64 = 0.4333;
 
 // What a text's flow unit says of its figures: whether they are metric, and how many of the unit a cubic foot per second is.
-#[derive(Drop)]
+#[derive(Clone, Copy)]
 pub struct Units {
     pub metric: bool,
     pub factor: f64,

@@ -1,11 +1,13 @@
 // What is near enough: the limits of a sale, and the test within one.
+#![tactic(auto)]
+
 ghost use Rattle.std.specs.Prelude.{◌≡◌};
 ghost use Rattle.tolerance.specs.Within.{within_of};
 
 use float::abs;
 
 // The lowest pressure that is sold, and how far heads and flows may be off their laws.
-#[derive(Drop)]
+#[derive(Clone, Copy)]
 pub struct Limits {
     pub pressure: f64,
     pub head: f64,

@@ -1,4 +1,6 @@
 // One trial, in the order of hydraulicsolver.rs.
+#![tactic(auto)]
+
 ghost use Rattle.std.specs.Prelude.{◌≡◌, ◌≤◌, length};
 ghost use Rattle.power.specs.Tables.{power_table};
 ghost use Rattle.columns.specs.Columns.{zeros};

@@ -1,4 +1,6 @@
 // The next trial of a solve whose counts may be any, with what is made for it, and what follows it.
+#![tactic(auto)]
+
 ghost use Rattle.std.specs.Prelude.{◌≡◌, ◌*◌, ◌≤◌, length};
 ghost use Rattle.columns.specs.Columns.{zeros};
 ghost use Rattle.links.specs.Links.{link_start, link_end};

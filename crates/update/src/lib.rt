@@ -1,5 +1,7 @@
 // hydraulicsolver.rs `update_links`: the flows and statuses after the heads, and what moved; and which
 // link's status changed first, with the cause (document 02, [2]).
+#![tactic(auto)]
+
 ghost use Rattle.std.specs.Prelude.{◌≡◌, ◌<◌, ◌≤◌, length};
 ghost use Rattle.layout.specs.Places.{Laid};
 ghost use Rattle.codes.specs.Codes.{status_of};
@@ -15,7 +17,7 @@ use records::{Link, Status, status_code, status_of};
 use status::{Change, updated};
 
 // The Rust's sum_dq, sum_q, max_dq and status_changed.
-#[derive(Drop)]
+#[derive(Clone, Copy)]
 pub struct Stats {
     pub moved: f64,
     pub total: f64,
@@ -24,7 +26,7 @@ pub struct Stats {
 }
 
 // What an update of the links came to.
-#[derive(Drop)]
+#[derive(Clone, Copy)]
 pub struct Updated {
     pub stats: Stats,
     pub flip: Flip,

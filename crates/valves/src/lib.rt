@@ -1,4 +1,6 @@
 // The valves' coefficients.
+#![tactic(auto)]
+
 ghost use Rattle.std.specs.Prelude.{◌≡◌};
 ghost use Rattle.valves.specs.Valve.{valve_coefficients, minor_loss, pcv_minor_loss, fcv_of, right_side, prv_of, psv_of, regulator_of, valve_of};
 

@@ -2,6 +2,8 @@
 // behind its length as a 4-byte little-endian number, and writes the verdict as a line `V number place`,
 // the listing, and a line `--`. A length above 65,536 or an input that is cut gives a line `X` and is the
 // last.
+#![tactic(auto)]
+
 ghost use Rattle.std.specs.Prelude.{◌≤◌, length};
 
 use sale::Verdict;

@@ -1,4 +1,6 @@
 // The line before a listing that says whether it may be sold: the verdict's number and place.
+#![tactic(auto)]
+
 ghost use Rattle.std.specs.Prelude.{◌≡◌, ◌+◌, ◌≤◌, length};
 ghost use Rattle.words.specs.Buffer.{placed};
 ghost use Rattle.verdict_line.specs.Line.{verdict_line};

@@ -1,4 +1,6 @@
 // The test of refusal 7.
+#![tactic(auto)]
+
 ghost use Rattle.std.specs.Prelude.{◌≡◌, ◌≤◌, length};
 ghost use Rattle.wild.specs.Wild.{first_wild, wild_drawn, wild_place};
 

@@ -1,4 +1,6 @@
 // The places of a line's first ten words, found once, and each word by its number.
+#![tactic(auto)]
+
 ghost use Rattle.std.specs.Prelude.{◌≡◌, [], ◌<◌, ltb, length, get_or};
 ghost use Rattle.line_words.specs.Words.{words_of};
 ghost use Rattle.word_places.specs.Places.{Words};

@@ -1,5 +1,7 @@
 // Replays a text of at most 64 KiB over crates lines, line_words and decimal_words: for each of its lines a line, with the pattern of
 // each word as 16 hex digits, or a dash where it spells no number.
+#![tactic(auto)]
+
 const OUT: i32 = 1;
 
 fn show(word: &[u8]) {

@@ -1,6 +1,8 @@
 // The f64s with which a zero cannot be left out: one less a zero is as it was, unless it is -0.0, and one times a zero
 // is a zero, unless it is an infinity or a NaN. Each is told by a count, so that the compiler makes vectors of the loop
 // that adds them up.
+#![tactic(auto)]
+
 ghost use Rattle.std.specs.Prelude.{◌≡◌};
 ghost use Rattle.zeros.specs.Zeros.{minus_zero_of, endless_of};
 

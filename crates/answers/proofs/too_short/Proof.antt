@@ -3,8 +3,8 @@ use native.Mathlib.Omega.{arith}
 use mathlib.Core.Path.{refl}
 use borrow.Author.Tests.{lt-ltb, le-ltb}
 use Rattle.answers.specs.Answers.{too_short}
-use Rattle.answers.proofs.too_short_lem.Statement.{statement}
-use Rattle.answers.proofs.too_short_lem.Tie as tie
+use Rattle.answers.proofs.too_short.Statement.{statement}
+use Rattle.answers.proofs.too_short.Tie as tie
 
 returns : tie.Need-returns
 unfolding too_short

@@ -2,8 +2,8 @@
 use native.Mathlib.Omega.{arith}
 use Rattle.layout.proofs.Laws.{link_within}
 use Rattle.links.proofs.Reading.{start_is}
-use Rattle.links.proofs.link_start_lem.Statement.{statement}
-use Rattle.links.proofs.link_start_lem.Tie as tie
+use Rattle.links.proofs.link_start.Statement.{statement}
+use Rattle.links.proofs.link_start.Tie as tie
 
 link-place-requires : tie.Need-link-place-requires
 link-place-requires c κs = omega (arith, link_within _ _ _ c.before.requires.0 c.before.requires.1)

@@ -11,7 +11,7 @@ use Rattle.links_at.proofs.put_ends.Tie as tie
 use Rattle.links_at.proofs.put_ends.Reads as reads
 use Rattle.links_at.proofs.put_ends.Lts as lts
 use Rattle.links.proofs.link_end.Reads as link-end-reads
-use Rattle.links.proofs.link_start_lem.Reads as link-start-reads
+use Rattle.links.proofs.link_start.Reads as link-start-reads
 
 abbrev invariant-loop : tie.invariant-loop
 invariant-loop sheet l starts₀ ends₀ j₀ j-end starts ends j = Filled (link_start sheet l) (link_end sheet l) l.links starts₀ ends₀ starts ends j

@@ -6,8 +6,8 @@ use Rattle.line_words.specs.Words.{words_of}
 use Rattle.spelled.specs.Texts.{bytes_of}
 use Rattle.line_fields.specs.Fields.{keyword_at}
 use Rattle.status_lines.specs.Status.{said_of}
-use Rattle.status_lines.proofs.status_said.Statement.{statement}
-use Rattle.status_lines.proofs.status_said.Tie as tie
+use Rattle.status_lines.proofs.status.Statement.{statement}
+use Rattle.status_lines.proofs.status.Tie as tie
 
 not-closed : (c : tie.Else1) → let start = c.before.before.before.before in keyword_at (words_of start.args.line.now) 1 (bytes_of "CLOSED") ≡ false
 unfolding bytes_of

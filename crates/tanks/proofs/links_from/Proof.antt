@@ -17,7 +17,7 @@ use Rattle.tanks.proofs.links_from.Tie as tie
 use Rattle.tanks.proofs.links_from.Reads as reads
 use Rattle.tanks.proofs.links_from.Lts as lts
 use Rattle.columns.proofs.take_from.Reads as take-from-reads
-use Rattle.links.proofs.link_start_lem.Reads as link-start-reads
+use Rattle.links.proofs.link_start.Reads as link-start-reads
 use Rattle.tanks.proofs.shut_link.Reads as shut-link-reads
 
 abbrev invariant-loop : tie.invariant-loop

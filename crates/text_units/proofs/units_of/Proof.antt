@@ -1,8 +1,8 @@
 -- `text_units::units_of` meets its contract. Assumes nothing.
 use borrow.Author.Rules.{rules}
 use Rattle.text_units.specs.Units.{units_of}
-use Rattle.text_units.proofs.units_of_lem.Statement.{statement}
-use Rattle.text_units.proofs.units_of_lem.Tie as tie
+use Rattle.text_units.proofs.units_of.Statement.{statement}
+use Rattle.text_units.proofs.units_of.Tie as tie
 
 factor-requires : tie.Need-factor-requires
 factor-requires c κs = search rules

@@ -1,7 +1,7 @@
 -- `valves::right_side` meets its contract. Assumes nothing.
 use Rattle.valves.specs.Valve.{right_side}
-use Rattle.valves.proofs.right_side_lem.Statement.{statement}
-use Rattle.valves.proofs.right_side_lem.Tie as tie
+use Rattle.valves.proofs.right_side.Statement.{statement}
+use Rattle.valves.proofs.right_side.Tie as tie
 
 returns : tie.Need-returns
 unfolding right_side

@@ -10,7 +10,7 @@ use Rattle.assembly.proofs.building.add_grounded.Statement.{statement}
 use Rattle.assembly.proofs.building.add_grounded.Tie as tie
 use Rattle.assembly.proofs.building.add_grounded.Reads as reads
 use Rattle.assembly.proofs.building.add_grounded.Lts as lts
-use Rattle.assembly.proofs.building.ground_node.Reads as ground-reads
+use Rattle.assembly.proofs.building.ground.Reads as ground-reads
 use Rattle.numbering.proofs.unknown_of.Reads as unknown-of-reads
 
 abbrev invariant-loop : tie.invariant-loop
@@ -51,7 +51,7 @@ loop-again c =
     let o = t.before.before in
     let s = o.before.before.before.before.before in
     let row = u.unknown-of.ensures ∙ s.requires.1.right o.loop.i t.if1.true in
-    (omega (arith, t.if1.true), grounded_next _ _ _ _ _ _ _ _ row o.loop.invariant.1 k.ground_node.ensures, omega (arith, k.ground_node.auto, o.loop.invariant.2))
+    (omega (arith, t.if1.true), grounded_next _ _ _ _ _ _ _ _ row o.loop.invariant.1 k.ground.ensures, omega (arith, k.ground.auto, o.loop.invariant.2))
 
 same_length : tie.Need-same-length invariant-loop decreases-loop
 same_length c = c.before.before.loop.invariant.2

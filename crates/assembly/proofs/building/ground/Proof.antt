@@ -1,10 +1,10 @@
 -- `assembly::building::ground` meets its contract. Assumes nothing.
 use Rattle.assembly.proofs.Built.{ground_marked, ground_not}
 use borrow.Author.Rules.{rules}
-use Rattle.assembly.proofs.building.ground_node.Statement.{statement}
-use Rattle.assembly.proofs.building.ground_node.Tie as tie
-use Rattle.assembly.proofs.building.ground_node.Reads as reads
-use Rattle.assembly.proofs.building.ground_node.Lts as lts
+use Rattle.assembly.proofs.building.ground.Statement.{statement}
+use Rattle.assembly.proofs.building.ground.Tie as tie
+use Rattle.assembly.proofs.building.ground.Reads as reads
+use Rattle.assembly.proofs.building.ground.Lts as lts
 use Rattle.rows.proofs.add_to_diagonal.Reads as add-to-diagonal-reads
 
 add-to-diagonal-requires : tie.Need-add-to-diagonal-requires

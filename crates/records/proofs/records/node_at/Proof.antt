@@ -1,8 +1,8 @@
 -- `records::records::node_at` meets its contract. Assumes nothing.
 use borrow.Author.Rules.{rules}
 use Rattle.records.proofs.Laws.{node}
-use Rattle.records.proofs.records.node_at_lem.Statement.{statement}
-use Rattle.records.proofs.records.node_at_lem.Tie as tie
+use Rattle.records.proofs.records.node_at.Statement.{statement}
+use Rattle.records.proofs.records.node_at.Tie as tie
 
 add-node-kind : tie.Need-overflow-add-node-kind
 add-node-kind c = search rules
