@@ -8,8 +8,8 @@ use lib.Ieee.Bits.{nan_bits_is, nan_bits_above}
 use lib.Ieee.Compare.{differs_from_itself}
 use borrow.Author.Tests.{lt-ltb, le-ltb}
 
-pub is_nan : (x : Float) → ne x x ≡ true → x ≡ nan
-is_nan x h = differs_from_itself x (subst T (sym h) tt)
+pub is_nan_lem : (x : Float) → ne x x ≡ true → x ≡ nan
+is_nan_lem x h = differs_from_itself x (subst T (sym h) tt)
 
 pub not_nan : (x : Float) → ne x x ≡ false → is_nan x ≡ false
 unfolding ne eq is_nan

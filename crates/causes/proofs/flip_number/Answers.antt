@@ -1,0 +1,19 @@
+-- `causes::told_number` meets its contract. Assumes nothing.
+use native.Mathlib.Omega.{arith}
+use Rattle.causes.specs.Causes.{flip_number}
+use Rattle.causes.proofs.Laws.{cause_small, number_of}
+use borrow.Author.Rules.{rules}
+use Rattle.causes.proofs.flip_number.Goals as goal
+
+pub overflow_mul-result : goal.overflow_mul-result
+overflow_mul-result c = omega (arith, c.cause_code-high.ensures, cause_small c.in-Link.cause)
+
+pub overflow_add-result : goal.overflow_add-result
+overflow_add-result c = omega (arith, c.cause_code-high.ensures, cause_small c.in-Link.cause)
+
+pub returns-in-Nothing : goal.returns-in-Nothing
+unfolding flip_number
+returns-in-Nothing c = rw c.in-Nothing.is
+
+pub returns-in-Link : goal.returns-in-Link
+returns-in-Link c = number_of _ _ _ _ c.in-Link.is c.cause_code-high.ensures

@@ -1,0 +1,34 @@
+-- `codes::link_kind` meets its contract. Assumes nothing.
+use Prim.Native.Nat.{zero-le}
+use mathlib.Core.Path.{sym}
+use Rattle.codes.specs.Codes.{link_kinds, link_kind_of}
+use Rattle.codes.proofs.Laws.{past, not_at}
+use Rattle.codes.proofs.link_kind.Goals as goal
+
+pub returns-in-0 : goal.returns-in-0
+unfolding link_kind_of
+returns-in-0 c = rw c.in-0.is
+
+pub returns-in-1 : goal.returns-in-1
+unfolding link_kind_of
+returns-in-1 c = rw c.in-1.is
+
+pub returns-in-2 : goal.returns-in-2
+unfolding link_kind_of
+returns-in-2 c = rw c.in-2.is
+
+pub returns-in-3 : goal.returns-in-3
+unfolding link_kind_of
+returns-in-3 c = rw c.in-3.is
+
+pub returns-in-4 : goal.returns-in-4
+unfolding link_kind_of
+returns-in-4 c = rw c.in-4.is
+
+pub returns-in-5 : goal.returns-in-5
+unfolding link_kind_of
+returns-in-5 c = rw c.in-5.is
+
+pub returns-in_default : goal.returns-in_default
+unfolding link_kind_of
+returns-in_default c = sym (past link_kinds c.args.code _ (not_at (not_at (not_at (not_at (not_at (not_at zero-le c.in_default.in_default-own.rest.0.0.0.0.0.1) c.in_default.in_default-own.rest.0.0.0.0.1) c.in_default.in_default-own.rest.0.0.0.1) c.in_default.in_default-own.rest.0.0.1) c.in_default.in_default-own.rest.0.1) c.in_default.in_default-own.rest.1))

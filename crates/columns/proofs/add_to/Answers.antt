@@ -1,0 +1,9 @@
+-- `columns::add_to` meets its contract. Assumes nothing.
+use Rattle.columns.specs.Columns.{add_to}
+use borrow.Author.Rules.{rules}
+use mathlib.Core.Path.{refl}
+use Rattle.columns.proofs.add_to.Goals as goal
+
+pub returns : goal.returns
+unfolding add_to
+returns c = refl

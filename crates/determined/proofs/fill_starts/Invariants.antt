@@ -1,0 +1,12 @@
+-- `determined::fill_starts` meets its contract. Assumes nothing.
+use native.Mathlib.Omega.{arith}
+use Prim.Native.Nat.{◌-◌}
+use Rattle.links.specs.Links.{link_start}
+use Rattle.determined.proofs.Laws.{Filled, none_filled, next_filled, all_filled}
+use Rattle.determined.proofs.fill_starts.Given as goal
+
+abbrev pub invariant-loop-j : goal.invariant-loop-j
+invariant-loop-j l = Filled (link_start l.sheet l.l) l.l.links l.initial.starts l.starts l.j
+
+abbrev pub decreases-loop-j : goal.decreases-loop-j
+decreases-loop-j l = l.l.links - l.j

@@ -1,0 +1,35 @@
+-- `listing_text::tell` meets its contract: the head, and results for number 0. Assumes nothing.
+use native.Mathlib.Omega.{arith}
+use mathlib.Core.Path.{sym, ◌∙◌}
+use borrow.Author.Rules.{rules}
+use Rattle.solver.proofs.Laws.{network_of}
+use Rattle.listing_text.proofs.Told.{told_failed, told_unread, told_all}
+use Rattle.listing_text.proofs.tell.Goals as goal
+
+pub returns-then-a-ne0-clause-put : goal.returns-then-a-ne0-clause-put
+returns-then-a-ne0-clause-put c = told_failed _ _ _ _ _ _ _ c.head_lines-at.ensures.put c.if-a-ne0.true
+
+pub returns-then-a-ne0-clause-upper_bound : goal.returns-then-a-ne0-clause-upper_bound
+returns-then-a-ne0-clause-upper_bound c = omega (arith, c.head_lines-at.ensures.upper_bound)
+
+pub result_lines-requires-clause-nodes_bound : goal.result_lines-requires-clause-nodes_bound
+result_lines-requires-clause-nodes_bound c =
+    let l = network_of _ _ (sym c.read.ensures ∙ c.in-Good.is) in
+    (omega (arith, l.nodes, l.links, c.head_lines-at.ensures.upper_bound, c.head_lines-at.auto.out, c.requires)).0
+
+pub result_lines-requires-clause-in_bounds : goal.result_lines-requires-clause-in_bounds
+result_lines-requires-clause-in_bounds c =
+    let l = network_of _ _ (sym c.read.ensures ∙ c.in-Good.is) in
+    (omega (arith, l.nodes, l.links, c.head_lines-at.ensures.upper_bound, c.head_lines-at.auto.out, c.requires)).1
+
+pub returns-in-Good-clause-put : goal.returns-in-Good-clause-put
+returns-in-Good-clause-put c = told_all _ _ _ _ _ _ _ c.head_lines-at.ensures.put _ (sym c.read.ensures ∙ c.in-Good.is) c.if-a-ne0.false c.result_lines.ensures.put
+
+pub returns-in-Good-clause-upper_bound : goal.returns-in-Good-clause-upper_bound
+returns-in-Good-clause-upper_bound c = c.result_lines.ensures.upper_bound
+
+pub returns-in-Refused-clause-put : goal.returns-in-Refused-clause-put
+returns-in-Refused-clause-put c = told_unread _ _ _ _ _ _ _ c.head_lines-at.ensures.put _ (sym c.read.ensures ∙ c.in-Refused.is)
+
+pub returns-in-Refused-clause-upper_bound : goal.returns-in-Refused-clause-upper_bound
+returns-in-Refused-clause-upper_bound c = omega (arith, c.head_lines-at.ensures.upper_bound)

@@ -1,0 +1,11 @@
+-- `node_lines::junction_fault` meets its contract. Assumes nothing.
+use mathlib.Core.Path.{◌∙◌}
+use borrow.Author.Rules.{rules}
+use Rattle.node_lines.specs.Nodes.{junction_fault}
+use Rattle.node_lines.proofs.junction_fault.Goals as goal
+
+pub returns : goal.returns
+unfolding junction_fault
+returns c =
+    c.fault.ensures
+    ∙ rw (c.has_word.ensures, c.has_word-2.ensures, c.is_name.ensures, c.is_number.ensures, c.is_number_or_none.ensures, c.is_name-2.ensures, c.has_word-3.ensures)

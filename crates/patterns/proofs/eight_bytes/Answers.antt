@@ -1,0 +1,8 @@
+-- `patterns::eight_bytes` meets its contract. Assumes nothing.
+use native.Mathlib.Omega.{arith}
+use borrow.Author.Rules.{rules}
+use Rattle.patterns.proofs.ByteLaws.{join}
+use Rattle.patterns.proofs.eight_bytes.Goals as goal
+
+pub returns : goal.returns
+returns c = omega (arith, join 4 4 c.args.s.now c.args.at)

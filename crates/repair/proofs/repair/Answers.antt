@@ -1,0 +1,18 @@
+-- `repair::repair` meets its contract: one of the three ways. Assumes nothing.
+use native.Mathlib.Omega.{arith}
+use mathlib.Core.Path.{sym, ◌∙◌}
+use borrow.Author.Rules.{rules}
+use Rattle.repair.proofs.Laws.{regulator_below, repair-frees, repair-singular, repair-grounds}
+use Rattle.repair.proofs.repair.Goals as goal
+
+pub bounds-statuses-j : goal.bounds-statuses-j
+bounds-statuses-j c = omega (arith, c.requires, regulator_below _ _ _ _ _ (sym c.regulator_at.ensures ∙ c.in-At.is))
+
+pub returns-in-At : goal.returns-in-At
+returns-in-At c = repair-frees _ _ _ _ _ _ (sym c.regulator_at.ensures ∙ c.in-At.is)
+
+pub returns-then-grounded-i : goal.returns-then-grounded-i
+returns-then-grounded-i c = repair-singular _ _ _ _ _ (sym c.regulator_at.ensures ∙ c.in-Nothing.is) c.if-grounded-i.true
+
+pub returns-else-grounded-i : goal.returns-else-grounded-i
+returns-else-grounded-i c = repair-grounds _ _ _ _ _ (sym c.regulator_at.ensures ∙ c.in-Nothing.is) c.if-grounded-i.false

@@ -1,0 +1,18 @@
+-- `status::pipe_status` meets its contract. Assumes nothing.
+use mathlib.Core.Path.{◌≡◌, refl}
+use mathlib.Core.List.{[], ◌∷◌}
+use Rattle.status.specs.Rules.{pipe_status}
+use Rattle.codes.specs.Codes.{status_of}
+use Rattle.status.specs.declared.Change.TheVariants.{Stays}
+use Rattle.codes.specs.declared.Status.{Status}
+use Rattle.status.proofs.Cases.{of_status}
+use borrow.Author.Rules.{rules}
+use Rattle.status.proofs.pipe_status.Goals as goal
+
+pub returns-in-TempClosed : goal.returns-in-TempClosed
+unfolding pipe_status status_of
+returns-in-TempClosed c = simp c.in-TempClosed.is
+
+pub returns-in_default : goal.returns-in_default
+unfolding pipe_status status_of
+returns-in_default c = of_status (λ (s : Status). Stays ≡ pipe_status s) (0 ∷ 1 ∷ 2 ∷ 4 ∷ 5 ∷ 6 ∷ 7 ∷ []) c.args.status c.in_default.in_default-own.keys2 (refl, (refl, (refl, (refl, (refl, (refl, (refl, tt)))))))

@@ -1,0 +1,22 @@
+-- `update::change_counts` meets its contract. Assumes nothing.
+use mathlib.Core.Bool.{true, false}
+use mathlib.Core.List.{[], ◌∷◌}
+use Rattle.codes.specs.Codes.{status_of}
+use Rattle.codes.specs.declared.Status.{Status}
+use Rattle.status.proofs.Cases.{of_status}
+use Rattle.update.specs.Update.{leaves, counts}
+use borrow.Author.Rules.{rules}
+use mathlib.Core.Path.{◌≡◌, refl}
+use Rattle.update.proofs.change_counts.Goals as goal
+
+pub returns-in-Stays : goal.returns-in-Stays
+unfolding counts
+returns-in-Stays c = simp c.in-Stays.is
+
+pub returns-in-TempClosed : goal.returns-in-TempClosed
+unfolding counts leaves status_of
+returns-in-TempClosed c = rw c.in-Becomes.is (of_status (λ (s : Status). false ≡ leaves s) (3 ∷ 7 ∷ []) c.args.old c.in-TempClosed.in-TempClosed-own.keys1 (refl, (refl, tt)))
+
+pub returns-in_default : goal.returns-in_default
+unfolding counts leaves status_of
+returns-in_default c = rw c.in-Becomes.is (of_status (λ (s : Status). true ≡ leaves s) (0 ∷ 1 ∷ 2 ∷ 4 ∷ 5 ∷ 6 ∷ []) c.args.old c.in_default.in_default-own.keys2 (refl, (refl, (refl, (refl, (refl, (refl, tt)))))))
