@@ -6,6 +6,7 @@ use native.Mathlib.Omega.{arith}
 use Rattle.nodes.specs.Nodes.{serving}
 use Rattle.nodes.proofs.Reading.{Counted, none_yet, one_more, same}
 use Rattle.nodes.proofs.count_serving.Goals as goal
+use Rattle.nodes.proofs.count_serving.Goals.{then-in_service, else-in_service}
 
 pub loop-i-init : goal.loop-i-init
 loop-i-init c = none_yet _ _
@@ -21,10 +22,10 @@ overflow_add-count c = omega (arith, c.loop-i.invariant.few, c.loop-i.invariant.
 
 pub loop-i-preserved : goal.loop-i-preserved
 loop-i-preserved c =
-    ⊎_elim
-    (λ w. one_more _ _ _ _ _ c.loop-i.invariant c.loop-i-test.true w.1 (sym c.in_service.ensures ∙ w.0.taken))
-    (λ w. same _ _ _ _ _ c.loop-i.invariant c.loop-i-test.true w.1 (sym c.in_service.ensures ∙ w.0.left))
-    c.if-in_service.branch
+    elim c.if-in_service.branch [
+      then-in_service w ↦ one_more _ _ _ _ _ c.loop-i.invariant c.loop-i-test.true w.count-is (sym c.in_service.ensures ∙ w.if-in_service.true)
+      | else-in_service w ↦ same _ _ _ _ _ c.loop-i.invariant c.loop-i-test.true w.count-is (sym c.in_service.ensures ∙ w.if-in_service.false)
+    ]
 
 pub returns : goal.returns
 returns c = let e : c.loop-i.i ≡ c.args.l.nodes = omega (arith, c.loop-i.invariant.upto, c.loop-i-test.false) in c.loop-i.invariant.counted ∙ ap (serving _ _) e
