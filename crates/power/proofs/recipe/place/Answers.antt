@@ -3,7 +3,7 @@ use mathlib.Core.Path.{◌≡◌, subst}
 use mathlib.Core.Bool.{Bool, true}
 use mathlib.Core.List.{List, [], ◌∷◌}
 use lib.ListN.{get_or}
-use Prim.Native.Nat.{ℕ, ◌+◌, ◌-◌, ◌/◌, ◌^◌}
+use Prim.Native.Nat.{ℕ, ◌+◌, ◌-◌, ◌/◌, ◌^◌, ◌≤◌, ◌<◌}
 use native.Mathlib.Omega.{arith}
 use lib.Dec.{T, ltb, eqb, ltb→lt, eqb→eq}
 use lib.IntN.{ℤ, pos, nat_abs, ◌-ℤ◌, ◌+ℤ◌}
@@ -36,32 +36,39 @@ passed : T (upto shifted 128)
 unfolding shifted tests
 passed = tt
 
+-- what holds at each field from 959 to 1086
+test_at : (q : ℕ) → 959 ≤ q → q < 1087 → (k : ℕ) → T (get_or (tests q) k true)
+unfolding shifted
+test_at q low high k =
+    let e : 959 + (q - 959) ≡ q = omega arith in
+    pick (tests q) (subst (λ (m : ℕ). T (every_of (tests m))) e (below shifted 128 passed (q - 959) (omega arith))) k
+
 pub overflow_sub-e : goal.overflow_sub-e
 unfolding tests shifted
 overflow_sub-e c =
     let q : ℕ = c.args.p / 2 ^ 52 in
-    let at : (k : ℕ) → T (get_or (tests q) k true) = λ k. pick (tests q) (subst (λ (m : ℕ). T (every_of (tests m))) (omega arith) (below shifted 128 passed (q - 959) (omega arith))) k in
+    let at : (k : ℕ) → T (get_or (tests q) k true) = test_at q (omega arith) (omega arith) in
     record { sfits = ltb→lt (mag (e q)) (2 ^ 63) (at 0) }
 
 pub overflow_sub-result : goal.overflow_sub-result
 unfolding tests shifted
 overflow_sub-result c =
     let q : ℕ = c.args.p / 2 ^ 52 in
-    let at : (k : ℕ) → T (get_or (tests q) k true) = λ k. pick (tests q) (subst (λ (m : ℕ). T (every_of (tests m))) (omega arith) (below shifted 128 passed (q - 959) (omega arith))) k in
+    let at : (k : ℕ) → T (get_or (tests q) k true) = test_at q (omega arith) (omega arith) in
     record { sfits = ltb→lt (mag (n q)) (2 ^ 63) (at 1) }
 
 pub overflow_add-result : goal.overflow_add-result
 unfolding tests shifted
 overflow_add-result c =
     let q : ℕ = c.args.p / 2 ^ 52 in
-    let at : (k : ℕ) → T (get_or (tests q) k true) = λ k. pick (tests q) (subst (λ (m : ℕ). T (every_of (tests m))) (omega arith) (below shifted 128 passed (q - 959) (omega arith))) k in
+    let at : (k : ℕ) → T (get_or (tests q) k true) = test_at q (omega arith) (omega arith) in
     record { sfits = ltb→lt (mag (s q)) (2 ^ 63) (at 2) }
 
 pub overflow_cast-result : goal.overflow_cast-result
 unfolding tests shifted
 overflow_cast-result c =
     let q : ℕ = c.args.p / 2 ^ 52 in
-    let at : (k : ℕ) → T (get_or (tests q) k true) = λ k. pick (tests q) (subst (λ (m : ℕ). T (every_of (tests m))) (omega arith) (below shifted 128 passed (q - 959) (omega arith))) k in
+    let at : (k : ℕ) → T (get_or (tests q) k true) = test_at q (omega arith) (omega arith) in
     let is : nat_abs (r q) ≡ 1086 - q = eqb→eq (nat_abs (r q)) (1086 - q) (at 4) in
     (at 3, record { fits = omega (arith, is) })
 
@@ -69,6 +76,6 @@ pub returns : goal.returns
 unfolding shifted tests
 returns c =
     let q : ℕ = c.args.p / 2 ^ 52 in
-    let at : (k : ℕ) → T (get_or (tests q) k true) = λ k. pick (tests q) (subst (λ (m : ℕ). T (every_of (tests m))) (omega arith) (below shifted 128 passed (q - 959) (omega arith))) k in
+    let at : (k : ℕ) → T (get_or (tests q) k true) = test_at q (omega arith) (omega arith) in
     let is : nat_abs (r q) ≡ 1086 - q = eqb→eq (nat_abs (r q)) (1086 - q) (at 4) in
     is
