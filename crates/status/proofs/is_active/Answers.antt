@@ -15,8 +15,8 @@ returns-in-Active c = simp c.in-Active.is
 
 pub returns-in-XPressure : goal.returns-in-XPressure
 unfolding is_active status_of
-returns-in-XPressure c = of_status (λ (s : Status). false ≡ is_active s) (6 ∷ 7 ∷ []) c.args.status c.in-XPressure.in-XPressure-own.keys2 (refl, (refl, tt))
+returns-in-XPressure c = search rules
 
 pub returns-in_default : goal.returns-in_default
 unfolding is_active status_of
-returns-in_default c = of_status (λ (s : Status). false ≡ is_active s) (0 ∷ 1 ∷ 3 ∷ 4 ∷ 5 ∷ []) c.args.status c.in_default.in_default-own.keys3 (refl, (refl, (refl, (refl, (refl, tt)))))
+returns-in_default c = search rules

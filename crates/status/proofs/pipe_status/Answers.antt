@@ -15,4 +15,4 @@ returns-in-TempClosed c = simp c.in-TempClosed.is
 
 pub returns-in_default : goal.returns-in_default
 unfolding pipe_status status_of
-returns-in_default c = of_status (λ (s : Status). Stays ≡ pipe_status s) (0 ∷ 1 ∷ 2 ∷ 4 ∷ 5 ∷ 6 ∷ 7 ∷ []) c.args.status c.in_default.in_default-own.keys2 (refl, (refl, (refl, (refl, (refl, (refl, (refl, tt)))))))
+returns-in_default c = search rules

@@ -31,4 +31,4 @@ returns-in-XPressure c = simp (c.closed_if_negative-in-XPressure.ensures, c.in-X
 
 pub returns-in_default : goal.returns-in_default
 unfolding psv_status status_of
-returns-in_default c = of_status (λ (s : Status). Stays ≡ psv_status c.args.target s c.args.q c.args.head-start c.args.head-end) (3 ∷ 4 ∷ 5 ∷ 7 ∷ []) c.args.status c.in_default.in_default-own.keys5 (refl, (refl, (refl, (refl, tt))))
+returns-in_default c = search rules

@@ -23,4 +23,4 @@ returns-in-Psv c = simp (c.psv_status.ensures, c.in-Psv.is)
 
 pub returns-in_default : goal.returns-in_default
 unfolding updated_of link_kind_of
-returns-in_default c = of_kind (λ (k : LinkKind). Stays ≡ updated_of k c.args.status c.args.setting c.args.q c.args.head-start c.args.head-end c.args.elevation-start c.args.elevation-end) (3 ∷ 4 ∷ 5 ∷ 6 ∷ []) c.args.kind c.in_default.in_default-own.keys4 (refl, (refl, (refl, (refl, tt))))
+returns-in_default c = search rules
