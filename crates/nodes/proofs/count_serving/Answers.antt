@@ -23,7 +23,7 @@ overflow_add-count c = omega (arith, c.loop-i.invariant.few, c.loop-i.invariant.
 pub loop-i-preserved : goal.loop-i-preserved
 loop-i-preserved c =
     elim c.if-in_service.branch [
-      then-in_service w ↦ one_more _ _ _ _ _ c.loop-i.invariant c.loop-i-test.true w.count-is (sym c.in_service.ensures ∙ w.if-in_service.true)
+      | then-in_service w ↦ one_more _ _ _ _ _ c.loop-i.invariant c.loop-i-test.true w.count-is (sym c.in_service.ensures ∙ w.if-in_service.true)
       | else-in_service w ↦ same _ _ _ _ _ c.loop-i.invariant c.loop-i-test.true w.count-is (sym c.in_service.ensures ∙ w.if-in_service.false)
     ]
 
