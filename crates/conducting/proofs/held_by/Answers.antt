@@ -1,4 +1,5 @@
 -- `conducting::held_by` meets its contract. Assumes nothing.
+use borrow.Enum.Refused.{opened}
 use borrow.Author.Rules.{rules}
 use Rattle.conducting.specs.Conducting.{held_by}
 use Rattle.conducting.proofs.Made.{holds_none}
@@ -13,4 +14,4 @@ unfolding held_by
 returns-in-Psv c = simp c.in-Psv.is
 
 pub returns-in_default : goal.returns-in_default
-returns-in_default c = holds_none _ _ _ c.in_default.in_default-own.keys3
+returns-in_default c = holds_none _ _ _ (opened c.in_default.in_default-own.keys3)

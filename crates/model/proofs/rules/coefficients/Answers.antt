@@ -1,4 +1,5 @@
 -- `model::rules::coefficients` meets its contract. Assumes nothing.
+use borrow.Enum.Refused.{opened}
 use Rattle.model.specs.Rules.{coefficients_of}
 use Rattle.model.proofs.Made.{of_valve}
 use borrow.Author.Rules.{rules}
@@ -9,4 +10,4 @@ unfolding coefficients_of
 returns-in-Pipe c = simp (c.pipe_rule.ensures, c.in-Pipe.is)
 
 pub returns : goal.returns
-returns c = of_valve _ _ _ _ _ _ _ _ c.in_default.in_default-own.keys2 c.valve_rule.ensures
+returns c = of_valve _ _ _ _ _ _ _ _ (opened c.in_default.in_default-own.keys2) c.valve_rule.ensures

@@ -33,23 +33,22 @@ less_after-requires-clause-l_len c = (omega arith, (omega arith, (omega arith, o
 
 pub less_after-requires-clause-firm : goal.less_after-requires-clause-firm
 less_after-requires-clause-firm c = λ t.
-          let e : c.loop-r.found + c.minus_zero.result ≡ 0 = eqb-true _ _ t in (
-            firm_none _ _ (c.slice_known-in-loop-r-1.given (c.loop-r.r - 1)) c.minus_zero.ensures (omega (arith, e)),
-            λ k u v. c.loop-r.invariant.4 (omega (arith, e)) k (omega arith) v,
-          )
+    let e : c.loop-r.found + c.minus_zero.result ≡ 0 = eqb-true _ _ t in (
+      firm_none _ _ (search rules) c.minus_zero.ensures (omega (arith, e)),
+      λ k u v. c.loop-r.invariant.4 (omega (arith, e)) k (omega arith) v,
+    )
 
 pub overflow_add-found : goal.overflow_add-found
 overflow_add-found c = omega (arith, endless_most _ _ c.endless-found.ensures)
 
 pub loop-r-preserved : goal.loop-r-preserved
-loop-r-preserved c =
-    (
-      omega arith,
-      simp length-set (omega arith),
-      back_next _ _ _ _ _ (omega arith) c.less_after.ensures ∙ c.loop-r.invariant.2,
-      omega (arith, endless_most _ _ c.endless-found.ensures),
-      λ h. finite_more _ _ c.loop-r.x _ (omega arith) (λ k u v. c.loop-r.invariant.4 (omega arith) k (omega arith) v) (finite_none _ _ c.endless-found.ensures (omega arith)),
-    )
+loop-r-preserved c = (
+  omega arith,
+  simp length-set (omega arith),
+  back_next _ _ _ _ _ (omega arith) c.less_after.ensures ∙ c.loop-r.invariant.2,
+  omega (arith, endless_most _ _ c.endless-found.ensures),
+  λ h. finite_more _ _ c.loop-r.x _ (omega arith) (λ k u v. c.loop-r.invariant.4 (omega arith) k (omega arith) v) (finite_none _ _ c.endless-found.ensures (omega arith)),
+)
 
 pub returns : goal.returns
 returns c = solved_end _ _ _ _ _ c.loop-k.k c.loop-r.r (omega arith) (omega arith) c.loop-k.invariant.2 c.loop-r.invariant.2
