@@ -1,11 +1,11 @@
 -- `balance::total_demand` meets its contract. Assumes nothing.
-use mathlib.Core.Logic.{⊎_elim}
 use Rattle.balance.specs.Balance.{demand_of}
 use Rattle.balance.proofs.Turns.{no_demand, demand_in, demand_out}
 use native.Mathlib.Omega.{arith}
 use Prim.Native.Nat.{◌-◌, ◌≤◌}
 use mathlib.Core.Path.{◌≡◌, sym, ap, ◌∙◌}
 use Rattle.balance.proofs.total_demand.Goals as goal
+use Rattle.balance.proofs.total_demand.Goals.{then-in_service, else-in_service}
 
 pub loop-i-init : goal.loop-i-init
 loop-i-init c = (omega arith, no_demand _ _ _)
@@ -17,14 +17,13 @@ pub in_service-requires-clause-i_lt_nodes : goal.in_service-requires-clause-i_lt
 in_service-requires-clause-i_lt_nodes c = c.loop-i-test.true
 
 pub loop-i-preserved : goal.loop-i-preserved
-loop-i-preserved c =
-    (
-      omega (arith, c.loop-i-test.true),
-      ⊎_elim
-          (λ w. demand_in _ _ _ _ _ _ c.loop-i.invariant.1 w.2 (sym c.in_service.ensures ∙ w.0.taken))
-          (λ w. demand_out _ _ _ _ _ _ c.loop-i.invariant.1 w.1 (sym c.in_service.ensures ∙ w.0.left))
-          c.if-in_service.branch,
-    )
+loop-i-preserved c = (
+  omega (arith, c.loop-i-test.true),
+  elim c.if-in_service.branch [
+    | then-in_service w ↦ demand_in _ _ _ _ _ _ c.loop-i.invariant.1 w.total-is (sym c.in_service.ensures ∙ w.if-in_service.true)
+    | else-in_service w ↦ demand_out _ _ _ _ _ _ c.loop-i.invariant.1 w.total-is (sym c.in_service.ensures ∙ w.if-in_service.false)
+  ],
+)
 
 pub returns : goal.returns
 returns c =

@@ -19,8 +19,8 @@ returns-then-b-clause-rhs c =
 
 pub returns-else-b-clause-matrix : goal.returns-else-b-clause-matrix
 returns-else-b-clause-matrix c =
-    (bend_off _ _ _ _ _ _ c.if-b.false).0
+    (bend_off c.args.b c.args.elevation c.args.minimum c.args.row c.args.matrix.now c.args.rhs.now c.if-b.false).0
 
 pub returns-else-b-clause-rhs : goal.returns-else-b-clause-rhs
 returns-else-b-clause-rhs c =
-    (bend_off _ _ _ _ _ _ c.if-b.false).1
+    (bend_off c.args.b c.args.elevation c.args.minimum c.args.row c.args.matrix.now c.args.rhs.now c.if-b.false).1

@@ -17,8 +17,8 @@ returns-then-l-clause-rhs c =
 
 pub returns-else-l-clause-matrix : goal.returns-else-l-clause-matrix
 returns-else-l-clause-matrix c =
-    (bent_none _ _ _ _ _ _ c.if-l.false).0
+    (bent_none _ _ _ _ c.args.matrix.now c.args.rhs.now c.if-l.false).0
 
 pub returns-else-l-clause-rhs : goal.returns-else-l-clause-rhs
 returns-else-l-clause-rhs c =
-    (bent_none _ _ _ _ _ _ c.if-l.false).1
+    (bent_none _ _ _ _ c.args.matrix.now c.args.rhs.now c.if-l.false).1

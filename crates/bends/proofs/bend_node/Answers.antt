@@ -32,8 +32,8 @@ returns-then-gives_way-clause-rhs c =
 
 pub returns-else-gives_way-clause-matrix : goal.returns-else-gives_way-clause-matrix
 returns-else-gives_way-clause-matrix c =
-    (node_straight _ _ _ _ _ _ _ _ _ _ c.in_service.ensures c.gives_way.ensures c.if-gives_way.false).0
+    (node_straight _ _ _ _ _ _ _ _ c.args.matrix.now c.args.rhs.now c.in_service.ensures c.gives_way.ensures c.if-gives_way.false).0
 
 pub returns-else-gives_way-clause-rhs : goal.returns-else-gives_way-clause-rhs
 returns-else-gives_way-clause-rhs c =
-    (node_straight _ _ _ _ _ _ _ _ _ _ c.in_service.ensures c.gives_way.ensures c.if-gives_way.false).1
+    (node_straight _ _ _ _ _ _ _ _ c.args.matrix.now c.args.rhs.now c.in_service.ensures c.gives_way.ensures c.if-gives_way.false).1

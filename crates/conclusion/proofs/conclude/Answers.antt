@@ -31,6 +31,9 @@ give-requires-clause-nodes_in_bounds_2 c =
     let long = subst (λ (x : List Float). c.args.l.nodes ≤ length x) (sym c.counts-counted.ensures) (counting_long _ _ _ _ c.requires.nodes_in_bounds_2.2 c.requires.nodes_in_bounds_2.1) in
     (c.requires.nodes_in_bounds_2.0, long, c.requires.nodes_in_bounds_2.3, c.requires.nodes_in_bounds_2.4)
 
+pub settle-requires : goal.settle-requires
+settle-requires c = omega (arith, c.requires.nodes_in_bounds, c.give.auto)
+
 pub returns-in-Balanced : goal.returns-in-Balanced
 returns-in-Balanced c = (λ marks bytes record₀ scratch. told_balanced c.args.sheet.now c.args.l c.args.trials (lent c.args.heads.now c.args.demands.now c.args.flows.now c.args.statuses.now record₀ scratch) (state c.args.h.now c.args.d.now c.args.f.now c.args.q.now c.args.c.now marks) c.args.tally bytes c.args.ended c.balanced-t.result _ _ _ _ _ _ c.in-Balanced.is c.balanced-t.ensures c.counts-counted.ensures c.give.ensures.heads c.give.ensures.demands c.settle.ensures c.give.ensures.flows c.give.ensures.statuses)
 
@@ -42,7 +45,3 @@ returns-in-Strayed c = (λ marks bytes record₀ scratch. told_strayed c.args.sh
 
 pub returns-in-Limit : goal.returns-in-Limit
 returns-in-Limit c = (λ marks bytes record₀ scratch. told_limit c.args.sheet.now c.args.l c.args.trials (lent c.args.heads.now c.args.demands.now c.args.flows.now c.args.statuses.now record₀ scratch) (state c.args.h.now c.args.d.now c.args.f.now c.args.q.now c.args.c.now marks) c.args.tally bytes c.args.ended _ c.in-Limit.is c.failed-in-Limit.ensures)
-
--- TODO settle-requires: place start_of passed whole
---   let g = c.before.before.before.before.before.before.before.before.before in
---       omega (arith, (start_of (counts_of g).before).requires.1.1.0, g.give.auto)

@@ -49,8 +49,8 @@ count-requires c = omega (arith, c.requires.trials_bound)
 
 pub returns-clause-turn : goal.returns-clause-turn
 returns-clause-turn c = turn_of_lem repair_of c.args.sheet.now c.args.l 0 c.args.d c.args.tally c.args.entries.now
-          (state c.args.heads.now c.args.demands.now c.args.drawn.now c.args.flows.now c.args.statuses.now c.args.grounded.now)
-          _ _ _ _ _ _ c.trial-e.ensures.state c.marked.ensures c.put.ensures c.go.ensures c.count.ensures
+    (state c.args.heads.now c.args.demands.now c.args.drawn.now c.args.flows.now c.args.statuses.now c.args.grounded.now)
+    _ _ _ _ _ _ c.trial-e.ensures.state c.marked.ensures c.put.ensures c.go.ensures c.count.ensures
 
 pub returns-clause-cleared : goal.returns-clause-cleared
 returns-clause-cleared c = c.clear.ensures ∙ ap (cleared (64 * c.args.l.unknowns)) c.trial-e.ensures.factors ∙ factors_cleared c.args.sheet.now c.args.l _ c.requires.network

@@ -43,7 +43,7 @@ advance-turn-requires-clause-trials_in_bounds c = (omega (arith, c.loop-tally.in
 pub loop-tally-smaller : goal.loop-tally-smaller
 loop-tally-smaller c =
     let counted_of : Counts c.loop-tally.tally c.advance-turn.result.tally = turn_counts _ _ _ 0 _ _ _ _ _ c.advance-turn.ensures.turn in
-    omega (arith, c.loop-tally-test.taken, counted_of)
+    omega (arith, c.loop-tally-test.true, counted_of)
 
 pub loop-tally-preserved : goal.loop-tally-preserved
 loop-tally-preserved c =
@@ -60,10 +60,10 @@ loop-tally-preserved c =
     } in
     let n = counted_of in (
       kept_on,
-      omega (arith, c.loop-tally-test.taken, n),
+      omega (arith, c.loop-tally-test.true, n),
       omega (arith, n, c.loop-tally.invariant.2),
       omega (arith, n, c.loop-tally.invariant.3),
-      run_on _ _ _ _ _ _ _ _ _ _ c.loop-tally-test.taken c.advance-turn.ensures.turn c.in-On.is ∙ c.loop-tally.invariant.4,
+      run_on _ _ _ _ _ _ _ _ _ _ c.loop-tally-test.true c.advance-turn.ensures.turn c.in-On.is ∙ c.loop-tally.invariant.4,
       c.advance-turn.ensures.cleared,
     )
 
@@ -180,7 +180,7 @@ shape_of-scratch-in-Over c =
     kept_on.scratch ∙ c.clear.auto.x
 
 pub returns-in-Over-clause-state : goal.returns-in-Over-clause-state
-returns-in-Over-clause-state c = run_over _ _ _ _ _ _ _ _ _ _ c.loop-tally-test.taken c.advance-turn.ensures.turn c.in-Over.is ∙ c.loop-tally.invariant.4
+returns-in-Over-clause-state c = run_over _ _ _ _ _ _ _ _ _ _ c.loop-tally-test.true c.advance-turn.ensures.turn c.in-Over.is ∙ c.loop-tally.invariant.4
 
 pub returns-in-Over-clause-cleared : goal.returns-in-Over-clause-cleared
 returns-in-Over-clause-cleared c = c.advance-turn.ensures.cleared

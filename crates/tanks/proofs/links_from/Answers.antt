@@ -5,7 +5,6 @@ use mathlib.Core.Path.{◌≡◌, refl, sym, ap, ◌∙◌}
 use native.Mathlib.Numerals.{add-one}
 use lib.ListN.{length, get_or, set, length-set}
 use mathlib.Core.List.{List}
-use mathlib.Core.Logic.{⊎_elim}
 use Rattle.links.specs.Links.{link_start, link_end}
 use Rattle.columns.specs.Columns.{take_from}
 use Rattle.touching.specs.Touching.{touching_at}
@@ -13,6 +12,7 @@ use Rattle.touching.proofs.Walk.{left_from, ends_behind, ends_within, all_left, 
 use Rattle.tanks.specs.Tanks.{tanks, links_from}
 use Rattle.tanks.proofs.Walks.{through, Walked, walk_next, through_here, through_other, through_none, from_touching}
 use Rattle.tanks.proofs.links_from.Goals as goal
+use Rattle.tanks.proofs.links_from.Goals.{then-link_start-i, else-link_start-i}
 
 pub loop-p-init : goal.loop-p-init
 loop-p-init c = record { from = omega arith; made = ap (λ (x : List ℕ). through (link_start c.args.sheet.now c.args.l) take_from c.args.empty c.args.full c.args.i c.args.flows.now x (tanks c.args.demands.now c.args.statuses.now)) (sym (all_left _ _ _ _ _ _ c.requires.links_at _ c.requires.i_lt_nodes.0)) ∙ from_touching _ _ _ _ _ _ _ _; d_long = refl; c_long = refl }
@@ -65,11 +65,10 @@ loop-p-preserved c =
     let next = next-left _ _ _ _ _ _ c.requires.links_at _ c.requires.i_lt_nodes.0 _ c.loop-p.invariant.from c.loop-p-test.true in
     let here = through_here (link_start c.args.sheet.now c.args.l) take_from c.args.empty c.args.full c.args.i c.args.flows.now _ _ _ _ c.loop-p.demands _ c.loop-p.statuses _ next c.link_start.ensures in
     let other = through_other (link_start c.args.sheet.now c.args.l) take_from c.args.empty c.args.full c.args.i c.args.flows.now _ _ _ _ c.loop-p.demands _ c.loop-p.statuses _ next c.link_start.ensures in
-    -- in the branch taken w .3 is take_from, w.8 shut_link, and w.11 and w.12 say what the columns hold after it
-    ⊎_elim
-    (λ w. walk_next c.loop-p.invariant (here w.0.taken (w.11 ∙ w.3.ensures) (w.12 ∙ w.8.ensures)) (omega (arith, ap length w.11, w.3.kept)) (omega (arith, ap length w.12, w.8.kept)))
-    (λ w. walk_next c.loop-p.invariant (other w.0.left w.1 w.2) (ap length w.1) (ap length w.2))
-    c.if-link_start-i.branch
+    elim c.if-link_start-i.branch [
+      | then-link_start-i w ↦ walk_next c.loop-p.invariant (here w.if-link_start-i.true (w.demands-is ∙ w.take_from.ensures) (w.statuses-is ∙ w.shut_link.ensures)) (omega (arith, ap length w.demands-is, w.take_from.auto)) (omega (arith, ap length w.statuses-is, w.shut_link.auto))
+      | else-link_start-i w ↦ walk_next c.loop-p.invariant (other w.if-link_start-i.false w.demands-is w.statuses-is) (ap length w.demands-is) (ap length w.statuses-is)
+    ]
 
 pub shape_of-demands : goal.shape_of-demands
 shape_of-demands c = c.loop-p.invariant.d_long

@@ -1,12 +1,12 @@
 -- `tanks::tank_links` meets its contract. Assumes nothing.
 use Rattle.tanks.proofs.Turns.{Reached, next, tanks_none, tanks_here, tanks_other, tanks_all}
 use Rattle.tanks.specs.Tanks.{tanks, tank_updates}
-use mathlib.Core.Logic.{⊎_elim}
 use native.Mathlib.Omega.{arith}
 use Prim.Native.Nat.{◌-◌}
 use mathlib.Core.Path.{◌≡◌, refl, ap}
 use lib.ListN.{length}
 use Rattle.tanks.proofs.tank_links.Goals as goal
+use Rattle.tanks.proofs.tank_links.Goals.{then-is_tank, else-is_tank}
 
 pub loop-i-init : goal.loop-i-init
 loop-i-init c = record { upto = omega arith; made = tanks_none _ _ _ _ _; d_long = refl; t_long = refl }
@@ -28,11 +28,10 @@ update_tank-requires-clause-i_lt_nodes c = omega (arith, c.requires.nodes_in_bou
 
 pub loop-i-preserved : goal.loop-i-preserved
 loop-i-preserved c =
-    -- in the branch taken w .4 is update_tank, and w.9 and w.10 say what the columns hold after it
-    ⊎_elim
-    (λ w. next c.loop-i.invariant c.loop-i-test.true (tanks_here c.args.sheet.now c.args.l c.args.heads.now c.args.flows.now c.loop-i.i (tanks c.args.demands.now c.args.statuses.now) (tanks c.loop-i.demands c.loop-i.statuses) _ _ _ _ _ c.loop-i.invariant.made c.is_tank.ensures w.0.taken w.4.ensures w.9 w.10) (omega (arith, ap length w.9, w.4.kept)) (omega (arith, ap length w.10, w.4.kept)))
-    (λ w. next c.loop-i.invariant c.loop-i-test.true (tanks_other c.args.sheet.now c.args.l c.args.heads.now c.args.flows.now c.loop-i.i (tanks c.args.demands.now c.args.statuses.now) _ _ _ _ _ c.loop-i.invariant.made c.is_tank.ensures w.0.left w.1 w.2) (ap length w.1) (ap length w.2))
-    c.if-is_tank.branch
+    elim c.if-is_tank.branch [
+      | then-is_tank w ↦ next c.loop-i.invariant c.loop-i-test.true (tanks_here c.args.sheet.now c.args.l c.args.heads.now c.args.flows.now c.loop-i.i (tanks c.args.demands.now c.args.statuses.now) (tanks c.loop-i.demands c.loop-i.statuses) _ _ _ _ _ c.loop-i.invariant.made c.is_tank.ensures w.if-is_tank.true w.update_tank.ensures w.demands-is w.statuses-is) (omega (arith, ap length w.demands-is, w.update_tank.auto)) (omega (arith, ap length w.statuses-is, w.update_tank.auto))
+      | else-is_tank w ↦ next c.loop-i.invariant c.loop-i-test.true (tanks_other c.args.sheet.now c.args.l c.args.heads.now c.args.flows.now c.loop-i.i (tanks c.args.demands.now c.args.statuses.now) _ _ _ _ _ c.loop-i.invariant.made c.is_tank.ensures w.if-is_tank.false w.demands-is w.statuses-is) (ap length w.demands-is) (ap length w.statuses-is)
+    ]
 
 pub shape_of-demands : goal.shape_of-demands
 shape_of-demands c = c.loop-i.invariant.d_long

@@ -19,6 +19,46 @@ use Rattle.trial.proofs.trial.Goals as goal
 all-long : {x : List Float} → x ≡ zeros 4096 → length x ≡ 4096
 all-long h = ap length h ∙ zeros_long 4096
 
+pub excess_flows-requires-clause-laid : goal.excess_flows-requires-clause-laid
+excess_flows-requires-clause-laid c = c.requires.network.laid
+
+pub excess_flows-requires-clause-ends_in : goal.excess_flows-requires-clause-ends_in
+excess_flows-requires-clause-ends_in c = c.requires.network.ends
+
+pub excess_flows-requires-clause-nodes_in_bounds : goal.excess_flows-requires-clause-nodes_in_bounds
+excess_flows-requires-clause-nodes_in_bounds c = (
+  subst (λ (x : List Float). c.args.l.nodes ≤ length x) (sym c.counts-counted.ensures) (counting_long _ _ _ _ c.requires.room.drawn c.requires.room.demands),
+  omega (arith, c.requires.network.nodes, c.requires.room.flows),
+)
+
+pub assemble-requires-clause-given : goal.assemble-requires-clause-given
+assemble-requires-clause-given c =
+    record {
+      laid = c.requires.network.laid;
+      few = c.requires.network.nodes;
+      links = c.requires.network.links;
+      numbers = c.requires.nodes_in_bounds.0;
+      heads = c.requires.room.heads;
+      excess = omega (arith, c.requires.network.nodes, c.excess_flows.auto);
+      flows = c.requires.room.flows;
+      statuses = c.requires.room.statuses;
+      ends = c.requires.network.ends;
+      rows = c.requires.nodes_in_bounds.1;
+    }
+
+pub assemble-requires-clause-sized : goal.assemble-requires-clause-sized
+assemble-requires-clause-sized c =
+    record { matrix = all-long c.requires.scratch_value; rhs = omega arith; g = omega (arith, c.requires.network.links); y = omega (arith, c.requires.network.links) }
+
+pub assemble-requires-clause-matrix_value : goal.assemble-requires-clause-matrix_value
+assemble-requires-clause-matrix_value c = c.requires.scratch_value
+
+pub assemble-requires-clause-nodes_in_bounds : goal.assemble-requires-clause-nodes_in_bounds
+assemble-requires-clause-nodes_in_bounds c = (c.requires.room.demands, (c.requires.room.drawn, c.requires.room.grounded))
+
+pub assemble-requires-clause-table_value : goal.assemble-requires-clause-table_value
+assemble-requires-clause-table_value c = c.requires.table_value
+
 pub factor-requires : goal.factor-requires
 factor-requires c =
     let few : c.args.l.unknowns ≤ 64 = omega (arith, c.requires.network.nodes, c.requires.network.unknowns, at_most c.args.sheet.now c.args.l c.args.l.nodes) in
@@ -115,40 +155,3 @@ returns-in-Done-clause-factors c =
     let factors : c.factor.new.a ≡ factors_of c.args.sheet.now c.args.l was = factors_left c.args.sheet.now c.args.l was filled.matrix filled.rhs filled.g filled.y c.factor.new.a assembled c.factor.ensures.matrix in
     let m = filled in
     factors
-
--- TODO excess_flows-requires: helper long alone
---   let k = c.before.before in
---       let s = start_of k in
---       let room = s.pre.1.1.1.1.0 in
---       let long = subst (λ (x : List Float). s.args.l.nodes ≤ length x) (sym k.counts.ensures) (counting_long _ _ _ _ room.drawn room.demands) in
---       (s.pre.0.laid, (s.pre.0.ends, (long, omega (arith, s.pre.0.nodes, room.flows))))
-
--- helper long : (a : tie.After-assemble) → length (start a).args.scratch.now ≡ 4096
---   long a = let cleared = (start a).pre.1.1.1.1.1 in all-long cleared
-
--- TODO assemble-requires: helper few alone
---   let e = c.before.before.before.before.before.before.before.before.before.before.before.before in
---       let s = start_of (counts_of e) in
---       let net = s.pre.0 in
---       let cleared = s.pre.1.1.1.1.1 in
---       let room = s.pre.1.1.1.1.0 in (
---         record {
---           laid = net.laid;
---           few = net.nodes;
---           links = net.links;
---           numbers = s.pre.1.1.0.0;
---           heads = room.heads;
---           excess = omega (arith, net.nodes, e.excess-flows.auto);
---           flows = room.flows;
---           statuses = room.statuses;
---           ends = net.ends;
---           rows = s.pre.1.1.0.1;
---         },
---         (
---           record { matrix = all-long cleared; rhs = omega arith; g = omega (arith, net.links); y = omega (arith, net.links) },
---           (cleared, ((room.demands, (room.drawn, room.grounded)), s.pre.1.1.1.0)),
---         ),
---       )
-
--- helper few : (a : tie.After-assemble) → (start a).args.l.unknowns ≤ 64
---   few a = let v = (start a).args in omega (arith, (start a).pre.0.nodes, (start a).pre.0.unknowns, at_most v.sheet.now v.l v.l.nodes)

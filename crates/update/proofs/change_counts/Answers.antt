@@ -15,8 +15,8 @@ returns-in-Stays c = simp c.in-Stays.is
 
 pub returns-in-TempClosed : goal.returns-in-TempClosed
 unfolding counts leaves status_of
-returns-in-TempClosed c = rw c.in-Becomes.is (of_status (λ (s : Status). false ≡ leaves s) (3 ∷ 7 ∷ []) c.args.old c.in-TempClosed.in-TempClosed-own.keys1 (refl, (refl, tt)))
+returns-in-TempClosed c = search rules
 
 pub returns-in_default : goal.returns-in_default
 unfolding counts leaves status_of
-returns-in_default c = rw c.in-Becomes.is (of_status (λ (s : Status). true ≡ leaves s) (0 ∷ 1 ∷ 2 ∷ 4 ∷ 5 ∷ 6 ∷ []) c.args.old c.in_default.in_default-own.keys2 (refl, (refl, (refl, (refl, (refl, (refl, tt)))))))
+returns-in_default c = search rules

@@ -8,7 +8,7 @@ use Rattle.update.proofs.update_links.Given as goal
 
 abbrev pub invariant-loop-j : goal.invariant-loop-j
 invariant-loop-j l =
-    Upto l.sheet l.l (basis l.heads l.g l.y l.factor) l.initial.flows l.initial.statuses l.flows l.statuses (record { stats = record { l.moved = l.moved; l.total = l.total; l.largest = l.largest; l.changed = l.changed }; l.flip = l.flip }) l.j
+    Upto l.sheet l.l (basis l.heads l.g l.y l.factor) l.initial.flows l.initial.statuses l.flows l.statuses (record { stats = record { moved = l.moved; total = l.total; largest = l.largest; changed = l.changed }; flip = l.flip }) l.j
 
 abbrev pub decreases-loop-j : goal.decreases-loop-j
 decreases-loop-j l = l.l.links - l.j

@@ -3,18 +3,16 @@ use Rattle.wild.proofs.Wilds.{found_below, drawn_none, drawn_found}
 use borrow.Author.Rules.{rules}
 use native.Mathlib.Omega.{arith}
 use mathlib.Core.Path.{sym, ◌∙◌}
-use mathlib.Core.Path.{ap}
-use mathlib.Core.Bool.{not}
 use Rattle.wild.proofs.wild_drawn.Goals as goal
 
 pub returns-then-not-l : goal.returns-then-not-l
-returns-then-not-l c = drawn_none _ _ (ap not c.if-not-l.true)
+returns-then-not-l c = drawn_none _ _ c.if-not-l.true
 
 pub overflow_add-result : goal.overflow_add-result
 overflow_add-result c = omega (arith, found_below _ _ _ (sym c.first_wild.ensures ∙ c.in-At.is))
 
 pub returns-in-At : goal.returns-in-At
-returns-in-At c = drawn_found _ _ _ (ap not c.if-not-l.false) (sym c.first_wild.ensures ∙ c.in-At.is)
+returns-in-At c = drawn_found _ _ _ c.if-not-l.false (sym c.first_wild.ensures ∙ c.in-At.is)
 
 pub returns-in-Nothing : goal.returns-in-Nothing
-returns-in-Nothing c = drawn_found _ _ _ (ap not c.if-not-l.false) (sym c.first_wild.ensures ∙ c.in-Nothing.is)
+returns-in-Nothing c = drawn_found _ _ _ c.if-not-l.false (sym c.first_wild.ensures ∙ c.in-Nothing.is)

@@ -9,6 +9,11 @@ use Rattle.sheet.specs.Scan.{readable, records_from}
 use Rattle.sheet.proofs.Laws.{fits, run_turn, run_end}
 use Rattle.sheet.proofs.scan.count_records.Given as goal
 
+pub record Counted (sheet : List ℕ) (from first second size at n : ℕ) : Type 0 where
+  pub inside : at ≤ length sheet
+  pub passed : n + from ≤ at
+  pub total : n + records_from first second size (length sheet - n) sheet at ≡ records_from first second size (length sheet) sheet from
+
 abbrev pub invariant-loop-at : goal.invariant-loop-at
 invariant-loop-at l = Counted l.sheet l.from l.first l.second l.size l.at l.n
 
