@@ -4,19 +4,19 @@
 
 ghost use Rattle.decimals.specs.Decimal.{InRange};
 
-const OUT: i32 = 1;
+use std::io;
+use std::io::{Read, Write};
 
-fn show(d: u64, negative: bool, size: u64)
+fn show<W: Write>(writer: &mut W, d: u64, negative: bool, size: u64) -> io::Result<()>
     requires { InRange d negative size }
 {
-    io::print_hex(
-        OUT,
+    standard::put_hex(
+        writer,
         patterns::pattern(decimals::decimal(d, negative, size)),
-        16,
-    );
+    )
 }
 
-fn answer(record: [u8; 10]) {
+fn answer<W: Write>(writer: &mut W, record: [u8; 10]) -> io::Result<()> {
     let low = patterns::two_bytes(&record, 0) + patterns::two_bytes(&record, 2) * 0x1_0000;
     let high = patterns::two_bytes(&record, 4) + patterns::two_bytes(&record, 6) * 0x1_0000;
     let d = low + high * 0x1_0000_0000;
@@ -25,34 +25,35 @@ fn answer(record: [u8; 10]) {
     if d < 100_000_000_000_000_000 {
         if negative == 1 {
             if size <= 37 {
-                show(d, true, size);
+                show(writer, d, true, size)?;
             }
         } else {
             if size <= 20 {
-                show(d, false, size);
+                show(writer, d, false, size)?;
             }
         }
     }
-    io::write_all(OUT, b"\n");
+    standard::put(writer, b"\n")
 }
 
 // One record, or false where the input has ended.
-fn step() -> bool {
+fn step<R: Read, W: Write>(reader: &mut R, writer: &mut W) -> io::Result<bool> {
     let mut record = [0u8; 10];
-    let n = io::read_full(0, &mut record);
+    let n = standard::fill(reader, &mut record)?;
     if n < 10 {
-        return false;
+        return Ok(false);
     }
-    answer(record);
-    true
+    answer(writer, record)?;
+    Ok(true)
 }
 
-fn main() {
-    let mut left: u32 = 1000000;
-    while left > 0 {
-        left -= 1;
-        if !step() {
-            return;
+fn main(rt: HostRuntime) -> io::Result<()> {
+    let mut reader = rt.stdin();
+    let mut writer = rt.stdout();
+    for _ in 0..1000000u32 {
+        if !step(&mut reader, &mut writer)? {
+            return Ok(());
         }
     }
+    Ok(())
 }

@@ -2,21 +2,21 @@
 // made of it, or its refusal (document 02, [1]). A longer text gives a line `X`.
 #![tactic(auto)]
 
+use std::io;
+
 // Room for a text, and one byte more, which shows that it is too long.
 fn room() -> [u8; 2097153] {
     [0u8; 2097153]
 }
 
-fn main() {
+fn main(rt: HostRuntime) -> io::Result<()> {
+    let mut reader = rt.stdin();
+    let mut writer = rt.stdout();
     let mut buffer = room();
-    let first = standard::fill(&mut buffer);
-    if first.failed {
-        return;
-    }
-    let n = first.count;
+    let n = standard::fill(&mut reader, &mut buffer)?;
     if n == 2097153 {
-        standard::put(b"X\n");
-        return;
+        return standard::put(&mut writer, b"X\n");
     }
-    text_out::show(&buffer[..n]);
+    text_out::show(&mut writer, &buffer[..n])?;
+    Ok(())
 }

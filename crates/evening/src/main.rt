@@ -8,6 +8,8 @@
 ghost use Rattle.std.specs.Prelude.{◌≤◌, length};
 
 use rowwise::Judging;
+use std::io;
+use std::io::{Read, Write};
 
 // The number of the first four bytes.
 fn number_in(head: &[u8]) -> u64
@@ -17,24 +19,25 @@ fn number_in(head: &[u8]) -> u64
 }
 
 // One evening, or false where the input has ended or is not in this form.
-fn step() -> bool {
+fn step<R: Read, W: Write>(reader: &mut R, writer: &mut W) -> io::Result<bool> {
     let mut head = [0u8; 8];
-    let mut buffer = io::large_buffer();
-    let next = standard::next_sheet(&mut head, &mut buffer);
+    let mut buffer = [0u8; 65536];
+    let next = standard::next_sheet(reader, writer, &mut head, &mut buffer)?;
     if next.none {
-        return false;
+        return Ok(false);
     }
     let rows = number_in(&head);
     let size = next.size;
-    rows_out::show_rows(&buffer[..size], Judging::Off, rows as usize)
+    rows_out::show_rows(reader, writer, &buffer[..size], Judging::Off, rows as usize)
 }
 
-fn main() {
-    let mut left: u64 = 18446744073709551615;
-    while left > 0 {
-        left -= 1;
-        if !step() {
-            return;
+fn main(rt: HostRuntime) -> io::Result<()> {
+    let mut reader = rt.stdin();
+    let mut writer = rt.stdout();
+    for _ in 0..u64::MAX {
+        if !step(&mut reader, &mut writer)? {
+            return Ok(());
         }
     }
+    Ok(())
 }

@@ -9,6 +9,8 @@
 ghost use Rattle.std.specs.Prelude.{◌≤◌, length};
 
 use rowwise::Judging;
+use std::io;
+use std::io::{Read, Write};
 use tolerance::Limits;
 
 // Three f64s, one behind the other.
@@ -30,25 +32,32 @@ fn rows_in(head: &[u8]) -> u64
 }
 
 // One evening, or false where the input has ended or is not in this form.
-fn step() -> bool {
+fn step<R: Read, W: Write>(reader: &mut R, writer: &mut W) -> io::Result<bool> {
     let mut head = [0u8; 32];
-    let mut buffer = io::large_buffer();
-    let next = standard::next_sheet(&mut head, &mut buffer);
+    let mut buffer = [0u8; 65536];
+    let next = standard::next_sheet(reader, writer, &mut head, &mut buffer)?;
     if next.none {
-        return false;
+        return Ok(false);
     }
     let limits = limits_in(&head);
     let rows = rows_in(&head);
     let size = next.size;
-    rows_out::show_rows(&buffer[..size], Judging::By(limits), rows as usize)
+    rows_out::show_rows(
+        reader,
+        writer,
+        &buffer[..size],
+        Judging::By(limits),
+        rows as usize,
+    )
 }
 
-fn main() {
-    let mut left: u64 = 18446744073709551615;
-    while left > 0 {
-        left -= 1;
-        if !step() {
-            return;
+fn main(rt: HostRuntime) -> io::Result<()> {
+    let mut reader = rt.stdin();
+    let mut writer = rt.stdout();
+    for _ in 0..u64::MAX {
+        if !step(&mut reader, &mut writer)? {
+            return Ok(());
         }
     }
+    Ok(())
 }

@@ -3,78 +3,80 @@
 // arguments and what it gave, floats as 16 hex digits.
 #![tactic(auto)]
 
-const OUT: i32 = 1;
+use std::io;
+use std::io::{Read, Write};
 
-fn hex(x: f64) {
-    io::write_all(OUT, b" ");
-    io::print_hex(OUT, patterns::pattern(x), 16);
+fn hex<W: Write>(writer: &mut W, x: f64) -> io::Result<()> {
+    standard::put(writer, b" ")?;
+    standard::put_hex(writer, patterns::pattern(x))
 }
 
-fn one(name: &[u8], x: f64, r: f64) {
-    io::write_all(OUT, name);
-    hex(x);
-    hex(r);
-    io::write_all(OUT, b"\n");
+fn one<W: Write>(writer: &mut W, name: &[u8], x: f64, r: f64) -> io::Result<()> {
+    standard::put(writer, name)?;
+    hex(writer, x)?;
+    hex(writer, r)?;
+    standard::put(writer, b"\n")
 }
 
-fn two(name: &[u8], x: f64, y: f64, r: f64) {
-    io::write_all(OUT, name);
-    hex(x);
-    hex(y);
-    hex(r);
-    io::write_all(OUT, b"\n");
+fn two<W: Write>(writer: &mut W, name: &[u8], x: f64, y: f64, r: f64) -> io::Result<()> {
+    standard::put(writer, name)?;
+    hex(writer, x)?;
+    hex(writer, y)?;
+    hex(writer, r)?;
+    standard::put(writer, b"\n")
 }
 
-fn answer(record: [u8; 25]) {
+fn answer<W: Write>(writer: &mut W, record: [u8; 25]) -> io::Result<()> {
     let kind = record[0];
     let n = record[9];
     let x = patterns::from_bytes(&record, 1);
     let y = patterns::from_bytes(&record, 9);
     let z = patterns::from_bytes(&record, 17);
     match kind {
-        0 => one(b"root", x, roots::root(x)),
-        1 => one(b"abs", x, float::abs(x)),
-        2 => one(b"signum", x, float::signum(x)),
-        3 => two(b"larger", x, y, float::larger(x, y)),
-        4 => two(b"smaller", x, y, float::smaller(x, y)),
+        0 => one(writer, b"root", x, roots::root(x)),
+        1 => one(writer, b"abs", x, float::abs(x)),
+        2 => one(writer, b"signum", x, float::signum(x)),
+        3 => two(writer, b"larger", x, y, float::larger(x, y)),
+        4 => two(writer, b"smaller", x, y, float::smaller(x, y)),
         5 => {
-            io::write_all(OUT, b"clamp");
-            hex(x);
-            two(b"", y, z, float::clamp(x, y, z));
+            standard::put(writer, b"clamp")?;
+            hex(writer, x)?;
+            two(writer, b"", y, z, float::clamp(x, y, z))
         }
         6 => {
             if float::wild(x) {
-                one(b"wild", x, 1.0)
+                one(writer, b"wild", x, 1.0)
             } else {
-                one(b"wild", x, 0.0)
+                one(writer, b"wild", x, 0.0)
             }
         }
         7 => {
-            io::write_all(OUT, b"whole_power ");
-            io::print_decimal(OUT, n as u64);
-            one(b"", x, float::whole_power(x, n as u32));
+            standard::put(writer, b"whole_power ")?;
+            standard::put_decimal(writer, n as u64)?;
+            one(writer, b"", x, float::whole_power(x, n as u32))
         }
-        _ => one(b"pattern", x, x),
+        _ => one(writer, b"pattern", x, x),
     }
 }
 
 // One record, or false where the input has ended.
-fn step() -> bool {
+fn step<R: Read, W: Write>(reader: &mut R, writer: &mut W) -> io::Result<bool> {
     let mut record = [0u8; 25];
-    let n = io::read_full(0, &mut record);
+    let n = standard::fill(reader, &mut record)?;
     if n < 25 {
-        return false;
+        return Ok(false);
     }
-    answer(record);
-    true
+    answer(writer, record)?;
+    Ok(true)
 }
 
-fn main() {
-    let mut left: u32 = 100000;
-    while left > 0 {
-        left -= 1;
-        if !step() {
-            return;
+fn main(rt: HostRuntime) -> io::Result<()> {
+    let mut reader = rt.stdin();
+    let mut writer = rt.stdout();
+    for _ in 0..100000u32 {
+        if !step(&mut reader, &mut writer)? {
+            return Ok(());
         }
     }
+    Ok(())
 }

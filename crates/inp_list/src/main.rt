@@ -3,27 +3,32 @@
 // and is the last.
 #![tactic(auto)]
 
+use std::io;
+use std::io::{Read, Write};
+
 // One text, or false where there is none.
-fn step() -> bool {
+fn step<R: Read, W: Write>(reader: &mut R, writer: &mut W) -> io::Result<bool> {
     let mut head = [0u8; 4];
-    let mut buffer = io::large_buffer();
-    let next = standard::next_sheet(&mut head, &mut buffer);
+    let mut buffer = [0u8; 65536];
+    let next = standard::next_sheet(reader, writer, &mut head, &mut buffer)?;
     if next.none {
-        return false;
+        return Ok(false);
     }
     let size = next.size;
-    if !text_out::show(&buffer[..size]) {
-        return false;
+    if !text_out::show(writer, &buffer[..size])? {
+        return Ok(false);
     }
-    standard::put(b"--\n")
+    standard::put(writer, b"--\n")?;
+    Ok(true)
 }
 
-fn main() {
-    let mut left: u64 = 18446744073709551615;
-    while left > 0 {
-        left -= 1;
-        if !step() {
-            return;
+fn main(rt: HostRuntime) -> io::Result<()> {
+    let mut reader = rt.stdin();
+    let mut writer = rt.stdout();
+    for _ in 0..u64::MAX {
+        if !step(&mut reader, &mut writer)? {
+            return Ok(());
         }
     }
+    Ok(())
 }

@@ -6,8 +6,8 @@
 ghost use Rattle.std.specs.Prelude.{◌≤◌, length};
 
 use answers::Answer;
-
-const OUT: i32 = 1;
+use std::io;
+use std::io::{Read, Write};
 
 // No result has these values.
 const FLOAT: f64 = 1234567.890625;
@@ -24,18 +24,18 @@ struct Lengths {
     scratch: usize,
 }
 
-fn number(x: usize) {
-    io::write_all(OUT, b" ");
-    io::print_decimal(OUT, x as u64);
+fn number<W: Write>(writer: &mut W, x: usize) -> io::Result<()> {
+    standard::put(writer, b" ")?;
+    standard::put_decimal(writer, x as u64)
 }
 
-fn show(first: usize, count: usize) {
+fn show<W: Write>(writer: &mut W, first: usize, count: usize) -> io::Result<()> {
     if count == 0 {
-        io::write_all(OUT, b" -");
+        standard::put(writer, b" -")
     } else {
-        number(first);
-        io::write_all(OUT, b"+");
-        io::print_decimal(OUT, count as u64);
+        number(writer, first)?;
+        standard::put(writer, b"+")?;
+        standard::put_decimal(writer, count as u64)
     }
 }
 
@@ -45,7 +45,7 @@ fn one(x: bool) -> usize
     if x { 1 } else { 0 }
 }
 
-fn show_floats(a: &[f64]) {
+fn show_floats<W: Write>(writer: &mut W, a: &[f64]) -> io::Result<()> {
     let mut first: usize = 0;
     let mut count: usize = 0;
     let mut i: usize = 0;
@@ -55,10 +55,10 @@ fn show_floats(a: &[f64]) {
         first += one(same & (count == 0));
         i += 1;
     }
-    show(first, count);
+    show(writer, first, count)
 }
 
-fn show_bytes(a: &[u8]) {
+fn show_bytes<W: Write>(writer: &mut W, a: &[u8]) -> io::Result<()> {
     let mut first: usize = 0;
     let mut count: usize = 0;
     let mut i: usize = 0;
@@ -68,7 +68,7 @@ fn show_bytes(a: &[u8]) {
         first += one(same & (count == 0));
         i += 1;
     }
-    show(first, count);
+    show(writer, first, count)
 }
 
 // Lends the first entries of each buffer.
@@ -102,7 +102,7 @@ fn lend(
     )
 }
 
-fn run(sheet: &[u8], l: Lengths)
+fn run<W: Write>(writer: &mut W, sheet: &[u8], l: Lengths) -> io::Result<()>
     requires { (l.heads ≤ 80) × (l.demands ≤ 80) × (l.flows ≤ 160) × (l.statuses ≤ 160) × (l.entries ≤ 1000) × (l.scratch ≤ 4200) }
 {
     let mut heads = [FLOAT; 80];
@@ -121,52 +121,52 @@ fn run(sheet: &[u8], l: Lengths)
         &mut entries,
         &mut scratch,
     );
-    io::write_all(OUT, b"A");
-    number(a.number);
-    number(a.place);
-    number(a.trials);
-    number(a.freed);
-    number(a.grounded);
-    show_floats(&heads);
-    show_floats(&demands);
-    show_floats(&flows);
-    show_bytes(&statuses);
-    show_bytes(&entries);
-    show_floats(&scratch);
-    io::write_all(OUT, b"\n");
+    standard::put(writer, b"A")?;
+    number(writer, a.number)?;
+    number(writer, a.place)?;
+    number(writer, a.trials)?;
+    number(writer, a.freed)?;
+    number(writer, a.grounded)?;
+    show_floats(writer, &heads)?;
+    show_floats(writer, &demands)?;
+    show_floats(writer, &flows)?;
+    show_bytes(writer, &statuses)?;
+    show_bytes(writer, &entries)?;
+    show_floats(writer, &scratch)?;
+    standard::put(writer, b"\n")
 }
 
 // False where more is to be lent than there is.
-fn run_within(sheet: &[u8], l: Lengths) -> bool {
+fn run_within<W: Write>(writer: &mut W, sheet: &[u8], l: Lengths) -> io::Result<bool> {
     if 80 < l.heads {
-        return false;
+        return Ok(false);
     }
     if 80 < l.demands {
-        return false;
+        return Ok(false);
     }
     if 160 < l.flows {
-        return false;
+        return Ok(false);
     }
     if 160 < l.statuses {
-        return false;
+        return Ok(false);
     }
     if 1000 < l.entries {
-        return false;
+        return Ok(false);
     }
     if 4200 < l.scratch {
-        return false;
+        return Ok(false);
     }
-    run(sheet, l);
-    true
+    run(writer, sheet, l)?;
+    Ok(true)
 }
 
 // One sheet, or false where there is none or its lengths are too large.
-fn step() -> bool {
+fn step<R: Read, W: Write>(reader: &mut R, writer: &mut W) -> io::Result<bool> {
     let mut head = [0u8; 16];
-    let mut buffer = io::large_buffer();
-    let next = standard::next_sheet(&mut head, &mut buffer);
+    let mut buffer = [0u8; 65536];
+    let next = standard::next_sheet(reader, writer, &mut head, &mut buffer)?;
     if next.none {
-        return false;
+        return Ok(false);
     }
     let l = Lengths {
         heads: patterns::two_bytes(&head, 0) as usize,
@@ -177,15 +177,16 @@ fn step() -> bool {
         scratch: patterns::two_bytes(&head, 10) as usize,
     };
     let size = next.size;
-    run_within(&buffer[..size], l)
+    run_within(writer, &buffer[..size], l)
 }
 
-fn main() {
-    let mut left: u32 = 100000;
-    while left > 0 {
-        left -= 1;
-        if !step() {
-            return;
+fn main(rt: HostRuntime) -> io::Result<()> {
+    let mut reader = rt.stdin();
+    let mut writer = rt.stdout();
+    for _ in 0..100000u32 {
+        if !step(&mut reader, &mut writer)? {
+            return Ok(());
         }
     }
+    Ok(())
 }

@@ -6,74 +6,83 @@
 ghost use Rattle.std.specs.Prelude.{◌≡◌, ◌≤◌, length};
 
 use linear::Factored;
+use std::io;
+use std::io::{Read, Write};
 
-const OUT: i32 = 1;
-
-fn read() -> f64 {
+fn read<R: Read>(reader: &mut R) -> io::Result<f64> {
     let mut bytes = [0u8; 8];
-    io::read_full(0, &mut bytes);
-    patterns::from_bytes(&bytes, 0)
+    standard::fill(reader, &mut bytes)?;
+    Ok(patterns::from_bytes(&bytes, 0))
 }
 
-fn write(x: f64) {
-    io::write_all(OUT, b" ");
-    io::print_hex(OUT, patterns::pattern(x), 16);
+fn write<W: Write>(writer: &mut W, x: f64) -> io::Result<()> {
+    standard::put(writer, b" ")?;
+    standard::put_hex(writer, patterns::pattern(x))
 }
 
-fn read_part(a: &mut [f64], from: usize, to: usize)
+fn read_part<R: Read>(reader: &mut R, a: &mut [f64], from: usize, to: usize) -> io::Result<()>
     requires { (from ≤ to) × (to ≤ length a.old) }
 {
     for i in from..to {
-        a[i] = read();
+        a[i] = read(reader)?;
     }
+    Ok(())
 }
 
-fn write_part(mark: &[u8], a: &[f64], from: usize, to: usize)
+fn write_part<W: Write>(
+    writer: &mut W,
+    mark: &[u8],
+    a: &[f64],
+    from: usize,
+    to: usize,
+) -> io::Result<()>
     requires { (from ≤ to) × (to ≤ length a.now) }
 {
-    io::write_all(OUT, mark);
+    standard::put(writer, mark)?;
     for i in from..to {
-        write(a[i]);
+        write(writer, a[i])?;
     }
-    io::write_all(OUT, b"\n");
+    standard::put(writer, b"\n")
 }
 
-fn read_matrix(a: &mut [f64], n: usize)
+fn read_matrix<R: Read>(reader: &mut R, a: &mut [f64], n: usize) -> io::Result<()>
     requires { (length a.old ≡ 4096) × (n ≤ 64) }
 {
     for c in 0..n {
-        read_part(a, 64 * c + c, 64 * c + n);
+        read_part(reader, a, 64 * c + c, 64 * c + n)?;
     }
+    Ok(())
 }
 
-fn write_matrix(a: &[f64], n: usize)
+fn write_matrix<W: Write>(writer: &mut W, a: &[f64], n: usize) -> io::Result<()>
     requires { (length a.now ≡ 4096) × (n ≤ 64) }
 {
     for c in 0..n {
-        write_part(b"L", a, 64 * c + c, 64 * c + n);
+        write_part(writer, b"L", a, 64 * c + c, 64 * c + n)?;
     }
+    Ok(())
 }
 
-fn answer(n: usize)
+fn answer<R: Read, W: Write>(reader: &mut R, writer: &mut W, n: usize) -> io::Result<()>
     requires { n ≤ 64 }
 {
     let mut a = [0.0; 4096];
     let mut x = [0.0; 64];
-    read_matrix(&mut a, n);
-    read_part(&mut x, 0, n);
+    read_matrix(reader, &mut a, n)?;
+    read_part(reader, &mut x, 0, n)?;
     let found = linear::factor(&mut a, n);
-    io::print_decimal(OUT, n as u64);
-    io::write_all(OUT, b"\n");
-    write_matrix(&a, n);
+    standard::put_decimal(writer, n as u64)?;
+    standard::put(writer, b"\n")?;
+    write_matrix(writer, &a, n)?;
     match found {
         Factored::Done => {
             substitution::substitute(&a, n, &mut x);
-            write_part(b"X", &x, 0, n);
+            write_part(writer, b"X", &x, 0, n)
         }
         Factored::Stopped(c) => {
-            io::write_all(OUT, b"S ");
-            io::print_decimal(OUT, c.0 as u64);
-            io::write_all(OUT, b"\n");
+            standard::put(writer, b"S ")?;
+            standard::put_decimal(writer, c.0 as u64)?;
+            standard::put(writer, b"\n")
         }
     }
 }
@@ -83,25 +92,26 @@ fn wide(x: u8) -> usize {
 }
 
 // One system, or false where the input has ended.
-fn step() -> bool {
+fn step<R: Read, W: Write>(reader: &mut R, writer: &mut W) -> io::Result<bool> {
     let mut size = [0u8; 1];
-    if io::read_full(0, &mut size) < 1 {
-        return false;
+    if standard::fill(reader, &mut size)? < 1 {
+        return Ok(false);
     }
     let n = wide(size[0]);
     if n > 64 {
-        return false;
+        return Ok(false);
     }
-    answer(n);
-    true
+    answer(reader, writer, n)?;
+    Ok(true)
 }
 
-fn main() {
-    let mut left: u32 = 100000;
-    while left > 0 {
-        left -= 1;
-        if !step() {
-            return;
+fn main(rt: HostRuntime) -> io::Result<()> {
+    let mut reader = rt.stdin();
+    let mut writer = rt.stdout();
+    for _ in 0..100000u32 {
+        if !step(&mut reader, &mut writer)? {
+            return Ok(());
         }
     }
+    Ok(())
 }

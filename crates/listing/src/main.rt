@@ -6,54 +6,47 @@
 ghost use Rattle.std.specs.Prelude.{◌≤◌, length};
 ghost use Rattle.stream.specs.Stream.{count_of};
 
+use std::io;
+use std::io::{Read, Write};
 use stream::Progress;
 
-fn show(sheet: &[u8]) {
-    let mut out = io::large_buffer();
+fn show<W: Write>(writer: &mut W, sheet: &[u8]) -> io::Result<()> {
+    let mut out = [0u8; 65536];
     let n = listing_text::compose(sheet, &mut out);
-    standard::put(&out[..n]);
+    standard::put(writer, &out[..n])
 }
 
-fn show_long(p: Progress)
+fn show_long<W: Write>(writer: &mut W, p: Progress) -> io::Result<()>
     requires { count_of p ≤ 144115188075855872 }
 {
-    let mut out = io::buffer();
+    let mut out = [0u8; 4096];
     let n = stream::line(stream::refusal(p), &mut out);
-    standard::put(&out[..n]);
+    standard::put(writer, &out[..n])
 }
 
 // The rest of a long sheet, whose first bytes fill the buffer.
-fn read_long(buffer: &mut [u8])
+fn read_long<R: Read, W: Write>(reader: &mut R, writer: &mut W, buffer: &mut [u8]) -> io::Result<()>
     requires { length buffer.old ≤ 65536 }
 {
     let mut p = stream::feed(Progress::Options(0), buffer);
-    let mut left: u64 = 1099511627775;
-    while left > 0 {
-        left -= 1;
-        let more = standard::fill(buffer);
-        if more.failed {
-            return;
-        }
-        let n = more.count;
+    for _ in 0..1099511627775u64 {
+        let n = standard::fill(reader, buffer)?;
         if n == 0 {
-            left = 0;
-        } else {
-            p = stream::feed(p, &buffer[..n]);
+            break;
         }
+        p = stream::feed(p, &buffer[..n]);
     }
-    show_long(p);
+    show_long(writer, p)
 }
 
-fn main() {
-    let mut buffer = io::large_buffer();
-    let first = standard::fill(&mut buffer);
-    if first.failed {
-        return;
-    }
-    let n = first.count;
+fn main(rt: HostRuntime) -> io::Result<()> {
+    let mut reader = rt.stdin();
+    let mut writer = rt.stdout();
+    let mut buffer = [0u8; 65536];
+    let n = standard::fill(&mut reader, &mut buffer)?;
     if n < 65536 {
-        show(&buffer[..n]);
+        show(&mut writer, &buffer[..n])
     } else {
-        read_long(&mut buffer);
+        read_long(&mut reader, &mut writer, &mut buffer)
     }
 }

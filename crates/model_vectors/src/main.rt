@@ -9,8 +9,8 @@ ghost use Rattle.power.specs.Tables.{power_table};
 use coefficient::{Coefficients, NodeAddition};
 use records::Link;
 use status::Change;
-
-const OUT: i32 = 1;
+use std::io;
+use std::io::{Read, Write};
 
 // What a record holds: codes and flags, and the floats in order.
 #[derive(Clone, Copy)]
@@ -43,43 +43,40 @@ fn case_of(record: [u8; 76]) -> Case {
     }
 }
 
-fn hex(x: f64) {
-    io::print_hex(OUT, patterns::pattern(x), 16);
+fn hex<W: Write>(writer: &mut W, x: f64) -> io::Result<()> {
+    standard::put_hex(writer, patterns::pattern(x))
 }
 
-fn space() {
-    io::write_all(OUT, b" ");
+fn space<W: Write>(writer: &mut W) -> io::Result<()> {
+    standard::put(writer, b" ")
 }
 
-fn addition(a: NodeAddition) {
+fn addition<W: Write>(writer: &mut W, a: NodeAddition) -> io::Result<()> {
     if a.given {
-        hex(a.diagonal);
-        space();
-        hex(a.rhs);
-        return;
+        hex(writer, a.diagonal)?;
+        space(writer)?;
+        return hex(writer, a.rhs);
     }
-    io::write_all(OUT, b"- -");
+    standard::put(writer, b"- -")
 }
 
-fn print_coefficients(c: Coefficients) {
-    hex(c.conductance);
-    space();
-    hex(c.offset);
-    space();
-    addition(c.upstream);
-    space();
-    addition(c.downstream);
+fn print_coefficients<W: Write>(writer: &mut W, c: Coefficients) -> io::Result<()> {
+    hex(writer, c.conductance)?;
+    space(writer)?;
+    hex(writer, c.offset)?;
+    space(writer)?;
+    addition(writer, c.upstream)?;
+    space(writer)?;
+    addition(writer, c.downstream)
 }
 
-fn print_change(change: Change) {
+fn print_change<W: Write>(writer: &mut W, change: Change) -> io::Result<()> {
     match change {
-        Change::Stays => {
-            io::write_all(OUT, b"-");
-        }
+        Change::Stays => standard::put(writer, b"-"),
         Change::Becomes(status, cause) => {
-            io::print_decimal(OUT, records::status_code(status) as u64);
-            space();
-            io::print_decimal(OUT, causes::cause_code(cause) as u64);
+            standard::put_decimal(writer, records::status_code(status) as u64)?;
+            space(writer)?;
+            standard::put_decimal(writer, causes::cause_code(cause) as u64)
         }
     }
 }
@@ -100,8 +97,8 @@ fn link_of(c: Case) -> Link {
     }
 }
 
-fn status_case(c: Case) {
-    print_change(status::updated(
+fn status_case<W: Write>(writer: &mut W, c: Case) -> io::Result<()> {
+    let change = status::updated(
         records::link_kind(c.kind),
         records::status_of(c.code),
         c.x[0],
@@ -110,60 +107,64 @@ fn status_case(c: Case) {
         c.x[3],
         c.x[4],
         c.x[5],
-    ));
+    );
+    print_change(writer, change)
 }
 
-fn converged_case(c: Case) {
+fn converged_case<W: Write>(writer: &mut W, c: Case) -> io::Result<()> {
     if damping::converged(c.x[0], c.x[1], c.flag == 1, c.x[2], c.code as usize, c.x[3]) {
-        io::write_all(OUT, b"1");
-        return;
+        return standard::put(writer, b"1");
     }
-    io::write_all(OUT, b"0");
+    standard::put(writer, b"0")
 }
 
-fn answer(c: Case, table: &[u64; 1153])
+fn answer<W: Write>(writer: &mut W, c: Case, table: &[u64; 1153]) -> io::Result<()>
     requires { table.now ≡ power_table }
 {
     let what = c.what;
     match what {
-        0 => print_coefficients(model::coefficients(
-            link_of(c),
-            records::status_of(c.code),
-            c.x[0],
-            c.x[5],
-            c.x[6],
-            c.x[7],
-            c.x[8],
-            table,
-        )),
-        1 => status_case(c),
-        2 => hex(damping::damped(c.x[0], c.x[1], c.x[2], c.x[3])),
-        3 => hex(damping::relative_change(c.x[0], c.x[1], c.x[2])),
-        _ => converged_case(c),
+        0 => {
+            let coefficients = model::coefficients(
+                link_of(c),
+                records::status_of(c.code),
+                c.x[0],
+                c.x[5],
+                c.x[6],
+                c.x[7],
+                c.x[8],
+                table,
+            );
+            print_coefficients(writer, coefficients)?;
+        }
+        1 => status_case(writer, c)?,
+        2 => hex(writer, damping::damped(c.x[0], c.x[1], c.x[2], c.x[3]))?,
+        3 => hex(writer, damping::relative_change(c.x[0], c.x[1], c.x[2]))?,
+        _ => converged_case(writer, c)?,
     }
-    io::write_all(OUT, b"\n");
+    standard::put(writer, b"\n")
 }
 
 // One record, or false where the input has ended.
-fn step(table: &[u64; 1153]) -> bool
+fn step<R: Read, W: Write>(reader: &mut R, writer: &mut W, table: &[u64; 1153]) -> io::Result<bool>
     requires { table.now ≡ power_table }
 {
     let mut record = [0u8; 76];
-    let n = io::read_full(0, &mut record);
+    let n = standard::fill(reader, &mut record)?;
     if n < 76 {
-        return false;
+        return Ok(false);
     }
-    answer(case_of(record), table);
-    true
+    answer(writer, case_of(record), table)?;
+    Ok(true)
 }
 
-fn main() {
+fn main(rt: HostRuntime) -> io::Result<()> {
+    let mut reader = rt.stdin();
+    let mut writer = rt.stdout();
     let table = power::power_table();
-    let mut left: u32 = 100000;
-    while left > 0 {
-        left -= 1;
-        if !step(&table) {
-            return;
+    for _ in 0..100000u32 {
+        if !step(&mut reader, &mut writer, &table)? {
+            return Ok(());
         }
     }
+    Ok(())
 }

@@ -5,42 +5,49 @@
 ghost use Rattle.std.specs.Prelude.{◌≡◌};
 ghost use Rattle.power.specs.Tables.{power_table, power_table871};
 
-const OUT: i32 = 1;
+use std::io;
+use std::io::{Read, Write};
 
-fn show(x: f64) {
-    io::print_hex(OUT, patterns::pattern(x), 16);
+fn show<W: Write>(writer: &mut W, x: f64) -> io::Result<()> {
+    standard::put_hex(writer, patterns::pattern(x))
 }
 
 // One f64, or false where the input has ended.
-fn step(table: &[u64; 1153], table_871: &[u64; 1153]) -> bool
+fn step<R: Read, W: Write>(
+    reader: &mut R,
+    writer: &mut W,
+    table: &[u64; 1153],
+    table_871: &[u64; 1153],
+) -> io::Result<bool>
     requires { (table.now ≡ power_table) × (table_871.now ≡ power_table871) }
 {
     let mut record = [0u8; 8];
-    let n = io::read_full(0, &mut record);
+    let n = standard::fill(reader, &mut record)?;
     if n < 8 {
-        return false;
+        return Ok(false);
     }
     let x = patterns::from_bytes(&record, 0);
     let p = power::power_871(x, table_871);
-    show(x);
-    io::write_all(OUT, b" ");
-    show(power::power(x, table));
-    io::write_all(OUT, b" ");
-    show(p);
-    io::write_all(OUT, b" ");
-    show(float::whole_power(x, 4) * p);
-    io::write_all(OUT, b"\n");
-    true
+    show(writer, x)?;
+    standard::put(writer, b" ")?;
+    show(writer, power::power(x, table))?;
+    standard::put(writer, b" ")?;
+    show(writer, p)?;
+    standard::put(writer, b" ")?;
+    show(writer, float::whole_power(x, 4) * p)?;
+    standard::put(writer, b"\n")?;
+    Ok(true)
 }
 
-fn main() {
+fn main(rt: HostRuntime) -> io::Result<()> {
+    let mut reader = rt.stdin();
+    let mut writer = rt.stdout();
     let table = power::power_table();
     let table_871 = power::power_table_871();
-    let mut left: u32 = 100000;
-    while left > 0 {
-        left -= 1;
-        if !step(&table, &table_871) {
-            return;
+    for _ in 0..100000u32 {
+        if !step(&mut reader, &mut writer, &table, &table_871)? {
+            return Ok(());
         }
     }
+    Ok(())
 }

@@ -3,30 +3,35 @@
 // is the last.
 #![tactic(auto)]
 
-fn show(sheet: &[u8]) -> bool {
-    let mut out = io::large_buffer();
+use std::io;
+use std::io::{Read, Write};
+
+fn show<W: Write>(writer: &mut W, sheet: &[u8]) -> io::Result<()> {
+    let mut out = [0u8; 65536];
     let n = listing_text::compose(sheet, &mut out);
-    standard::put_item(&mut out, n)
+    standard::put_item(writer, &mut out, n)
 }
 
 // One sheet, or false where there is none.
-fn step() -> bool {
+fn step<R: Read, W: Write>(reader: &mut R, writer: &mut W) -> io::Result<bool> {
     let mut head = [0u8; 4];
-    let mut buffer = io::large_buffer();
-    let next = standard::next_sheet(&mut head, &mut buffer);
+    let mut buffer = [0u8; 65536];
+    let next = standard::next_sheet(reader, writer, &mut head, &mut buffer)?;
     if next.none {
-        return false;
+        return Ok(false);
     }
     let size = next.size;
-    show(&buffer[..size])
+    show(writer, &buffer[..size])?;
+    Ok(true)
 }
 
-fn main() {
-    let mut left: u64 = 18446744073709551615;
-    while left > 0 {
-        left -= 1;
-        if !step() {
-            return;
+fn main(rt: HostRuntime) -> io::Result<()> {
+    let mut reader = rt.stdin();
+    let mut writer = rt.stdout();
+    for _ in 0..u64::MAX {
+        if !step(&mut reader, &mut writer)? {
+            return Ok(());
         }
     }
+    Ok(())
 }

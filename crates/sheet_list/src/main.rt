@@ -2,20 +2,22 @@
 // `G` and the counts of nodes and links, or `R` and the refusal's number and place.
 #![tactic(auto)]
 
-const OUT: i32 = 1;
+use std::io;
+use std::io::{Read, Write};
 
-fn line(mark: &[u8], x: usize, y: usize) {
-    io::write_all(OUT, mark);
-    io::print_decimal(OUT, x as u64);
-    io::write_all(OUT, b" ");
-    io::print_decimal(OUT, y as u64);
-    io::write_all(OUT, b"\n");
+fn line<W: Write>(writer: &mut W, mark: &[u8], x: usize, y: usize) -> io::Result<()> {
+    standard::put(writer, mark)?;
+    standard::put_decimal(writer, x as u64)?;
+    standard::put(writer, b" ")?;
+    standard::put_decimal(writer, y as u64)?;
+    standard::put(writer, b"\n")
 }
 
-fn show(reading: sheet::Reading) {
+fn show<W: Write>(writer: &mut W, reading: sheet::Reading) -> io::Result<()> {
     match reading {
-        sheet::Reading::Good(l) => line(b"G ", l.nodes, l.links),
+        sheet::Reading::Good(l) => line(writer, b"G ", l.nodes, l.links),
         sheet::Reading::Refused(refusal) => line(
+            writer,
             b"R ",
             refusals::refusal_number(refusal),
             refusals::refusal_place(refusal),
@@ -24,24 +26,25 @@ fn show(reading: sheet::Reading) {
 }
 
 // One sheet, or false where there is none.
-fn step() -> bool {
+fn step<R: Read, W: Write>(reader: &mut R, writer: &mut W) -> io::Result<bool> {
     let mut head = [0u8; 4];
-    let mut buffer = io::large_buffer();
-    let next = standard::next_sheet(&mut head, &mut buffer);
+    let mut buffer = [0u8; 65536];
+    let next = standard::next_sheet(reader, writer, &mut head, &mut buffer)?;
     if next.none {
-        return false;
+        return Ok(false);
     }
     let size = next.size;
-    show(sheet::read(&buffer[..size]));
-    true
+    show(writer, sheet::read(&buffer[..size]))?;
+    Ok(true)
 }
 
-fn main() {
-    let mut left: u32 = 100000;
-    while left > 0 {
-        left -= 1;
-        if !step() {
-            return;
+fn main(rt: HostRuntime) -> io::Result<()> {
+    let mut reader = rt.stdin();
+    let mut writer = rt.stdout();
+    for _ in 0..100000u32 {
+        if !step(&mut reader, &mut writer)? {
+            return Ok(());
         }
     }
+    Ok(())
 }

@@ -1,24 +1,15 @@
-// Standard input and output for the programs. A read that fails is told from the end of the input, and a write
-// that fails is seen: one line on standard error says so and standard output is closed, so that nothing comes
-// behind it. status.c makes the exit status of that, since a `main` of Rattle's has none to give.
+// Standard input and output for the programs, generic over what is read and what is written. A read that fails is an
+// error and never the end of the input, and so is a write that fails: a `main` that passes the error on says it in one
+// line on standard error and ends with status 1, and writes nothing behind it.
 #![tactic(auto)]
 
-ghost use Rattle.std.specs.Prelude.{◌+◌, ◌≤◌, ◌≡◌, length};
-ghost use Rattle.io.specs.Counts.{IsPrefixLen};
-ghost use Rattle.standard.specs.Standard.{failed_of, item_of};
+ghost use Rattle.std.specs.Prelude.{◌+◌, ◌<◌, ◌≤◌, ◌≡◌, length, take, drop, decimal, IfOk, OnOk, OnErr, IfSome};
+ghost use Rattle.std.specs.Counts.{IsPrefixLen};
+ghost use Rattle.std.specs.Io.KnownBytes.{Appends, Consumes, IsAtEnd, Keeps};
+ghost use Rattle.standard.specs.Standard.{item_of};
 
-const IN: i32 = 0;
-
-const OUT: i32 = 1;
-
-const ERR: i32 = 2;
-
-// How many bytes were read, and whether a read failed behind them.
-#[derive(Clone, Copy)]
-pub struct Filled {
-    pub count: usize,
-    pub failed: bool,
-}
+use std::io;
+use std::io::{Error, Read, Write};
 
 // The length of the sheet that was read, or that there is none.
 #[derive(Clone, Copy)]
@@ -36,102 +27,103 @@ fn no_sheet() -> Next
     }
 }
 
-// Whether a read failed, by what it told: 0 is the end of the input and no failure.
-fn failed(told: isize) -> bool
-    ensures { result ≡ failed_of told }
-{
-    told < 0
+fn no_input() -> Error {
+    Error::other("standard input cannot be read")
 }
 
-// One read: how many bytes it put at the buffer's start, 0 at the end of the input.
-fn read_once(buffer: &mut [u8]) -> Filled
-    ensures { result.count ≤ length buffer.new }
+fn no_output() -> Error {
+    Error::other("standard output cannot be written")
+}
+
+// One read: how many bytes it put at the buffer's start, 0 only at the end of the input or where there is no room.
+fn read_once<R: Read>(reader: &mut R, buffer: &mut [u8]) -> io::Result<usize>
+    ensures count { IfOk result (λ n. n ≤ length buffer.new) }
+    ensures bytes { IfOk result (λ n. Consumes (R.remaining reader.old) (R.remaining reader.new) (take n buffer.new)) }
+    ensures end { IfOk result (λ n. n ≡ 0 → 0 < length buffer.new → IsAtEnd (R.remaining reader.new)) }
+    ensures err { OnErr result (Keeps (R.remaining reader.old) (R.remaining reader.new)) }
 {
-    let told = libc::read(IN, buffer);
-    let n = io::count(told, buffer);
-    Filled {
-        count: n,
-        failed: failed(told),
+    match reader.read(buffer) {
+        Ok(n) => Ok(n),
+        Err(_) => Err(no_input()),
     }
 }
 
 // The same from an index on.
-fn read_on(buffer: &mut [u8], from: usize) -> Filled
-    requires { from ≤ length buffer.old }
-    ensures { from + result.count ≤ length buffer.new }
+fn read_on<R: Read>(reader: &mut R, buffer: &mut [u8], from: usize) -> io::Result<usize>
+    requires { from < length buffer.old }
+    ensures front { take from buffer.new ≡ take from buffer.old }
+    ensures count { IfOk result (λ n. from + n ≤ length buffer.new) }
+    ensures bytes { IfOk result (λ n. Consumes (R.remaining reader.old) (R.remaining reader.new) (take n (drop from buffer.new))) }
+    ensures end { IfOk result (λ n. n ≡ 0 → IsAtEnd (R.remaining reader.new)) }
+    ensures err { OnErr result (Keeps (R.remaining reader.old) (R.remaining reader.new)) }
 {
-    read_once(&mut buffer[from..])
+    read_once(reader, &mut buffer[from..])
 }
 
-// Nothing may come behind a failure.
-fn stop(line: &[u8]) {
-    io::write_all(ERR, line);
-    libc::close(OUT);
-}
-
-fn no_input() {
-    stop(b"standard input cannot be read\n");
-}
-
-fn no_output() {
-    stop(b"standard output cannot be written\n");
-}
-
-// Bytes of standard input until the buffer is full, the input ends or a read fails.
-pub fn fill(buffer: &mut [u8]) -> Filled
-    ensures { IsPrefixLen result.count buffer.new }
+// Bytes of the input until the buffer is full, the input ends or a read fails.
+pub fn fill<R: Read>(reader: &mut R, buffer: &mut [u8]) -> io::Result<usize>
+    ensures count { IfOk result (λ n. IsPrefixLen n buffer.new) }
+    ensures bytes { IfOk result (λ n. Consumes (R.remaining reader.old) (R.remaining reader.new) (take n buffer.new)) }
+    ensures end { IfOk result (λ n. n < length buffer.new → IsAtEnd (R.remaining reader.new)) }
 {
     let mut done: usize = 0;
     while done < buffer.len() {
-        let more = read_on(buffer, done);
-        if more.failed {
-            no_input();
-            return Filled {
-                count: done,
-                failed: true,
-            };
+        let more = read_on(reader, buffer, done)?;
+        if more == 0 {
+            return Ok(done);
         }
-        if more.count == 0 {
-            return Filled {
-                count: done,
-                failed: false,
-            };
-        }
-        done += more.count;
+        done += more;
     }
-    Filled {
-        count: done,
-        failed: false,
+    Ok(done)
+}
+
+// Writes all of the bytes, or fails.
+pub fn put<W: Write>(writer: &mut W, bytes: &[u8]) -> io::Result<()>
+    ensures { OnOk result (Appends (W.contents writer.old) (W.contents writer.new) bytes.now) }
+{
+    match writer.write_all(bytes) {
+        Ok(()) => Ok(()),
+        Err(_) => Err(no_output()),
     }
 }
 
-// Writes to standard output, and tells whether all was written.
-pub fn put(bytes: &[u8]) -> bool {
-    let written = io::write_all(OUT, bytes);
-    if !written {
-        no_output();
+// Writes a number's decimal digits.
+pub fn put_decimal<W: Write>(writer: &mut W, n: u64) -> io::Result<()>
+    ensures { OnOk result (Appends (W.contents writer.old) (W.contents writer.new) (decimal n)) }
+{
+    match write!(writer, "{n}") {
+        Ok(()) => Ok(()),
+        Err(_) => Err(no_output()),
     }
-    written
+}
+
+// Writes a number as 16 hex digits.
+pub fn put_hex<W: Write>(writer: &mut W, n: u64) -> io::Result<()> {
+    match write!(writer, "{n:016x}") {
+        Ok(()) => Ok(()),
+        Err(_) => Err(no_output()),
+    }
 }
 
 // Writes the first n bytes of a buffer, and a line `--` behind them.
-pub fn put_item(out: &mut [u8], n: usize) -> bool
+pub fn put_item<W: Write>(writer: &mut W, out: &mut [u8], n: usize) -> io::Result<()>
     requires { n + 3 ≤ length out.old }
-    ensures { out.new ≡ item_of out.old n }
+    ensures item { out.new ≡ item_of out.old n }
+    ensures bytes { OnOk result (Appends (W.contents writer.old) (W.contents writer.new) (take (n + 3) out.new)) }
 {
     out[n] = b'-';
     out[n + 1] = b'-';
     out[n + 2] = b'\n';
     let end = n + 3;
-    put(&out[..end])
+    put(writer, &out[..end])
 }
 
 // A length above the buffer's, or an input that is cut: a line `X`, which is the last.
-fn cut() -> Next
-    ensures { result.size ≡ 0 }
+fn cut<W: Write>(writer: &mut W) -> io::Result<Next>
+    ensures { IfOk result (λ next. next.size ≡ 0) }
 {
-    put(b"X\n");
-    no_sheet()
+    put(writer, b"X\n")?;
+    Ok(no_sheet())
 }
 
 fn length_of(head: &[u8]) -> usize
@@ -144,27 +136,29 @@ fn length_of(head: &[u8]) -> usize
 
 // The next head, and the sheet behind it: its length is the number of the head's last four bytes. A sheet is
 // there only where all of it was read.
-pub fn next_sheet(head: &mut [u8], buffer: &mut [u8]) -> Next
+pub fn next_sheet<R: Read, W: Write>(
+    reader: &mut R,
+    writer: &mut W,
+    head: &mut [u8],
+    buffer: &mut [u8],
+) -> io::Result<Next>
     requires { 4 ≤ length head.old }
-    ensures { IsPrefixLen result.size buffer.new }
+    ensures { IfOk result (λ next. IsPrefixLen next.size buffer.new) }
 {
-    let first = fill(head);
-    if first.failed | (first.count == 0) {
-        return no_sheet();
+    let first = fill(reader, head)?;
+    if first == 0 {
+        return Ok(no_sheet());
     }
-    if first.count < head.len() {
-        return cut();
+    if first < head.len() {
+        return cut(writer);
     }
     let size = length_of(head);
     if buffer.len() < size {
-        return cut();
+        return cut(writer);
     }
-    let rest = fill(&mut buffer[..size]);
-    if rest.failed {
-        return no_sheet();
+    let rest = fill(reader, &mut buffer[..size])?;
+    if rest < size {
+        return cut(writer);
     }
-    if rest.count < size {
-        return cut();
-    }
-    Next { size, none: false }
+    Ok(Next { size, none: false })
 }

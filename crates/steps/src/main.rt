@@ -4,6 +4,8 @@
 
 use answers::Answer;
 use held::Taken;
+use std::io;
+use std::io::{Read, Write};
 
 fn same_floats(a: &[f64], b: &[f64]) -> bool {
     if a.len() != b.len() {
@@ -197,7 +199,8 @@ fn all_stays(
 }
 
 // The listing of an answer and of what was lent after it.
-fn list(
+fn list<W: Write>(
+    writer: &mut W,
     sheet: &[u8],
     a: Answer,
     heads: &[f64; 64],
@@ -205,16 +208,16 @@ fn list(
     flows: &[f64; 128],
     statuses: &[u8; 128],
     entries: &[u8; 800],
-) -> bool {
+) -> io::Result<()> {
     if 200 < a.trials {
-        return standard::put(b"X\n");
+        return standard::put(writer, b"X\n");
     }
-    let mut out = io::large_buffer();
+    let mut out = [0u8; 65536];
     let n = listing_text::tell(sheet, a, heads, demands, flows, statuses, entries, &mut out);
-    standard::put_item(&mut out, n)
+    standard::put_item(writer, &mut out, n)
 }
 
-fn show(sheet: &[u8]) -> bool {
+fn show<W: Write>(writer: &mut W, sheet: &[u8]) -> io::Result<()> {
     let mut h = [0.0f64; 64];
     let mut d = [0.0f64; 64];
     let mut f = [0.0f64; 64];
@@ -277,9 +280,10 @@ fn show(sheet: &[u8]) -> bool {
         &mut scratch,
     );
     if !stays {
-        standard::put(b"X\n");
+        standard::put(writer, b"X\n")?;
     }
     list(
+        writer,
         sheet,
         told.answer,
         &heads,
@@ -291,23 +295,25 @@ fn show(sheet: &[u8]) -> bool {
 }
 
 // One sheet, or false where there is none.
-fn step() -> bool {
+fn step<R: Read, W: Write>(reader: &mut R, writer: &mut W) -> io::Result<bool> {
     let mut head = [0u8; 4];
-    let mut buffer = io::large_buffer();
-    let next = standard::next_sheet(&mut head, &mut buffer);
+    let mut buffer = [0u8; 65536];
+    let next = standard::next_sheet(reader, writer, &mut head, &mut buffer)?;
     if next.none {
-        return false;
+        return Ok(false);
     }
     let size = next.size;
-    show(&buffer[..size])
+    show(writer, &buffer[..size])?;
+    Ok(true)
 }
 
-fn main() {
-    let mut left: u64 = 18446744073709551615;
-    while left > 0 {
-        left -= 1;
-        if !step() {
-            return;
+fn main(rt: HostRuntime) -> io::Result<()> {
+    let mut reader = rt.stdin();
+    let mut writer = rt.stdout();
+    for _ in 0..u64::MAX {
+        if !step(&mut reader, &mut writer)? {
+            return Ok(());
         }
     }
+    Ok(())
 }

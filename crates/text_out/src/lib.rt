@@ -5,44 +5,44 @@
 ghost use Rattle.std.specs.Prelude.{◌≤◌};
 
 use from_text::Taken;
+use std::io;
+use std::io::Write;
 
-fn tell_refusal(t: Taken) -> bool {
+fn tell_refusal<W: Write>(writer: &mut W, t: Taken) -> io::Result<bool> {
     let mut line = [0u8; 128];
     let n = text::answer_line(t.number, t.place, 0, 0, 0, &mut line, 0);
     if n <= 128 {
-        return standard::put(&line[..n]);
+        standard::put(writer, &line[..n])?;
+        return Ok(true);
     }
-    false
+    Ok(false)
 }
 
-fn tell_sheet(t: Taken, made: &[u8], names: &[u8]) -> bool {
+fn tell_sheet<W: Write>(writer: &mut W, t: Taken, made: &[u8], names: &[u8]) -> io::Result<bool> {
     let mut line = [0u8; 128];
     let n = sheet_line::sheet_line(t.nodes, t.links, t.bytes, &mut line, 0);
     let bytes = t.bytes;
     let size = t.names;
     if made.len() < bytes {
-        return false;
+        return Ok(false);
     }
     if names.len() < size {
-        return false;
+        return Ok(false);
     }
-    if !standard::put(&line[..n]) {
-        return false;
-    }
-    if !standard::put(&made[..bytes]) {
-        return false;
-    }
-    standard::put(&names[..size])
+    standard::put(writer, &line[..n])?;
+    standard::put(writer, &made[..bytes])?;
+    standard::put(writer, &names[..size])?;
+    Ok(true)
 }
 
 // Reads the text and writes what becomes of it; whether all was written. 512 nodes and 1,024 links with
 // their names fit into the buffers.
-pub fn show(text: &[u8]) -> bool {
+pub fn show<W: Write>(writer: &mut W, text: &[u8]) -> io::Result<bool> {
     let mut sheet = [0u8; 73263];
     let mut names = [0u8; 49152];
     let t = from_text::from_text(text, &mut sheet, &mut names);
     if t.number != 0 {
-        return tell_refusal(t);
+        return tell_refusal(writer, t);
     }
-    tell_sheet(t, &sheet, &names)
+    tell_sheet(writer, t, &sheet, &names)
 }

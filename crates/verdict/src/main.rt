@@ -7,6 +7,8 @@
 ghost use Rattle.std.specs.Prelude.{◌≤◌, length};
 
 use sale::Verdict;
+use std::io;
+use std::io::{Read, Write};
 use tolerance::Limits;
 
 // Three f64s, one behind the other.
@@ -20,13 +22,13 @@ fn limits_in(head: &[u8]) -> Limits
     }
 }
 
-fn tell(v: Verdict) -> bool {
+fn tell<W: Write>(writer: &mut W, v: Verdict) -> io::Result<()> {
     let mut out = [0u8; 64];
     let n = verdict_line::verdict_line(v.number, v.place, &mut out, 0);
-    standard::put(&out[..n])
+    standard::put(writer, &out[..n])
 }
 
-fn judge(sheet: &[u8], limits: Limits) -> bool {
+fn judge<W: Write>(writer: &mut W, sheet: &[u8], limits: Limits) -> io::Result<()> {
     let mut heads = [0.0f64; 64];
     let mut demands = [0.0f64; 64];
     let mut flows = [0.0f64; 128];
@@ -43,41 +45,41 @@ fn judge(sheet: &[u8], limits: Limits) -> bool {
         &mut entries,
         &mut scratch,
     );
-    tell(s.verdict)
+    tell(writer, s.verdict)
 }
 
-fn list(sheet: &[u8]) -> bool {
-    let mut out = io::large_buffer();
+fn list<W: Write>(writer: &mut W, sheet: &[u8]) -> io::Result<()> {
+    let mut out = [0u8; 65536];
     let n = listing_text::compose(sheet, &mut out);
-    standard::put_item(&mut out, n)
+    standard::put_item(writer, &mut out, n)
 }
 
-fn show(sheet: &[u8], limits: Limits) -> bool {
-    if !judge(sheet, limits) {
-        return false;
-    }
-    list(sheet)
+fn show<W: Write>(writer: &mut W, sheet: &[u8], limits: Limits) -> io::Result<()> {
+    judge(writer, sheet, limits)?;
+    list(writer, sheet)
 }
 
 // One sheet with its limits, or false where there is none.
-fn step() -> bool {
+fn step<R: Read, W: Write>(reader: &mut R, writer: &mut W) -> io::Result<bool> {
     let mut head = [0u8; 28];
-    let mut buffer = io::large_buffer();
-    let next = standard::next_sheet(&mut head, &mut buffer);
+    let mut buffer = [0u8; 65536];
+    let next = standard::next_sheet(reader, writer, &mut head, &mut buffer)?;
     if next.none {
-        return false;
+        return Ok(false);
     }
     let limits = limits_in(&head);
     let size = next.size;
-    show(&buffer[..size], limits)
+    show(writer, &buffer[..size], limits)?;
+    Ok(true)
 }
 
-fn main() {
-    let mut left: u64 = 18446744073709551615;
-    while left > 0 {
-        left -= 1;
-        if !step() {
-            return;
+fn main(rt: HostRuntime) -> io::Result<()> {
+    let mut reader = rt.stdin();
+    let mut writer = rt.stdout();
+    for _ in 0..u64::MAX {
+        if !step(&mut reader, &mut writer)? {
+            return Ok(());
         }
     }
+    Ok(())
 }

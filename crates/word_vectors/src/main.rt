@@ -2,48 +2,51 @@
 // each word as 16 hex digits, or a dash where it spells no number.
 #![tactic(auto)]
 
-const OUT: i32 = 1;
+use std::io;
+use std::io::Write;
 
-fn show(word: &[u8]) {
+fn show<W: Write>(writer: &mut W, word: &[u8]) -> io::Result<()> {
     let w = decimal_words::spelled_number(word);
     if w.good {
-        io::print_hex(OUT, patterns::pattern(decimal_words::worth(w)), 16);
+        standard::put_hex(writer, patterns::pattern(decimal_words::worth(w)))?;
     } else {
-        io::write_all(OUT, b"-");
+        standard::put(writer, b"-")?;
     }
-    io::write_all(OUT, b" ");
+    standard::put(writer, b" ")
 }
 
-fn show_words(line: &[u8]) {
+fn show_words<W: Write>(writer: &mut W, line: &[u8]) -> io::Result<()> {
     let mut at: usize = 0;
     loop {
         let w = line_words::next_word(line, at);
         let start = w.start;
         let end = w.end;
         if end <= start {
-            return;
+            return Ok(());
         }
-        show(&line[start..end]);
+        show(writer, &line[start..end])?;
         at = end;
     }
 }
 
-fn show_lines(text: &[u8]) {
+fn show_lines<W: Write>(writer: &mut W, text: &[u8]) -> io::Result<()> {
     let mut at: usize = 0;
     loop {
         let l = lines::line_at(text, at);
         let end = l.end;
-        show_words(&text[at..end]);
-        io::write_all(OUT, b"\n");
+        show_words(writer, &text[at..end])?;
+        standard::put(writer, b"\n")?;
         if l.last {
-            return;
+            return Ok(());
         }
         at = l.next;
     }
 }
 
-fn main() {
-    let mut buffer = io::large_buffer();
-    let n = io::read_full(0, &mut buffer);
-    show_lines(&buffer[..n]);
+fn main(rt: HostRuntime) -> io::Result<()> {
+    let mut reader = rt.stdin();
+    let mut writer = rt.stdout();
+    let mut buffer = [0u8; 65536];
+    let n = standard::fill(&mut reader, &mut buffer)?;
+    show_lines(&mut writer, &buffer[..n])
 }

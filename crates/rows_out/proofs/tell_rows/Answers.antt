@@ -187,8 +187,7 @@ slice_bounds-tell_row-end-in-loop-r-6 c =
 pub tell_row-requires : goal.tell_row-requires
 tell_row-requires c =
     let starts_of : Starts c.args.s.nodes c.args.s.links c.args.s.trials c.width-wide.result c.loop-r.r = starts c.args.s.nodes c.args.s.links c.args.s.trials c.args.s.rows c.width-wide.result c.loop-r.r c.if-nodes-gt64.false c.if-links-gt128.false c.if-trials-gt200.false c.if-rows-gt32.false c.width-wide.ensures c.loop-r-test.true in
-    let k = starts_of in
-    (
+    let k = starts_of in (
       rest (c.loop-r.r * c.args.s.nodes) 64 c.args.heads.now (omega (arith, k.at-node, c.requires.0)),
       rest (c.loop-r.r * c.args.s.nodes) 64 c.args.demands.now (omega (arith, k.at-node, c.requires.1)),
       rest (c.loop-r.r * c.args.s.links) 128 c.args.flows.now (omega (arith, k.at-link, c.requires.2)),
