@@ -134,7 +134,7 @@ node_left x ws junctions h = room_left ws x.nodes 512 _ h
 node_left x ws reservoirs h = room_left ws x.nodes 512 _ h
 node_left x ws tanks h = room_left ws x.nodes 512 _ h
 
-link_left : {s : Section} {kind : ℕ} (x : Known) (ws : List (List ℕ)) → Links-in ws s kind → data_fault s x ws ≡ 0 → length x.links < 1024
+link_left : {s : Section} (x : Known) (ws : List (List ℕ)) {kind : ℕ} → Links-in ws s kind → data_fault s x ws ≡ 0 → length x.links < 1024
 unfolding data_fault
 link_left x ws pipes h = room_left ws x.links 1024 _ h
 link_left x ws valves h = room_left ws x.links 1024 _ h
@@ -145,7 +145,7 @@ node_taken x ws junctions = refl
 node_taken x ws reservoirs = refl
 node_taken x ws tanks = refl
 
-link_taken : {s : Section} {kind : ℕ} (x : Known) (ws : List (List ℕ)) → Links-in ws s kind → data_taken s x ws ≡ with_link x kind ws
+link_taken : {s : Section} (x : Known) (ws : List (List ℕ)) {kind : ℕ} → Links-in ws s kind → data_taken s x ws ≡ with_link x kind ws
 unfolding data_taken
 link_taken x ws pipes = refl
 link_taken x ws valves = refl

@@ -15,12 +15,7 @@ returns-then-a-ne0-clause-upper_bound c = omega (arith, c.head_lines-at.ensures.
 pub result_lines-requires-clause-nodes_bound : goal.result_lines-requires-clause-nodes_bound
 result_lines-requires-clause-nodes_bound c =
     let l = network_of _ _ (sym c.read.ensures ∙ c.in-Good.is) in
-    (omega (arith, l.nodes, l.links, c.head_lines-at.ensures.upper_bound, c.head_lines-at.auto.out, c.requires)).0
-
-pub result_lines-requires-clause-in_bounds : goal.result_lines-requires-clause-in_bounds
-result_lines-requires-clause-in_bounds c =
-    let l = network_of _ _ (sym c.read.ensures ∙ c.in-Good.is) in
-    (omega (arith, l.nodes, l.links, c.head_lines-at.ensures.upper_bound, c.head_lines-at.auto.out, c.requires)).1
+    (omega (arith, l.nodes), omega (arith, l.links), omega arith, omega arith)
 
 pub returns-in-Good-clause-put : goal.returns-in-Good-clause-put
 returns-in-Good-clause-put c = told_all _ _ _ _ _ _ _ c.head_lines-at.ensures.put _ (sym c.read.ensures ∙ c.in-Good.is) c.if-a-ne0.false c.result_lines.ensures.put

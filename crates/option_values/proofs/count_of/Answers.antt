@@ -21,6 +21,9 @@ returns-then-word-gt17 c = long _ c.if-word-gt17.true
 pub loop-i-init : goal.loop-i-init
 loop-i-init c = start _ c.if-word-gt17.false
 
+pub returns-then-not-is_digit : goal.returns-then-not-is_digit
+returns-then-not-is_digit c = other c.loop-i.invariant (omega arith) (sym c.is_digit.ensures ∙ was_false _ (ap not c.if-not-is_digit.true))
+
 pub overflow_mul-v : goal.overflow_mul-v
 overflow_mul-v c = omega (arith, small c.loop-i.invariant)
 
@@ -53,6 +56,3 @@ returns-then-v-gt65535 c = too_large c.loop-i.invariant (omega arith) c.if-v-gt6
 
 pub returns : goal.returns
 returns c = counted c.loop-i.invariant (omega arith) c.if-word-eq0.false c.if-word-gt17.false c.if-v-gt65535.false
-
--- TODO returns-then-not-is_digit: helper at-loop alone
---   let at-loop = c.before.before.before.before in other at-loop.loop.invariant (omega arith) (sym c.before.is_digit.ensures ∙ was_false _ c.if3.true)

@@ -19,9 +19,9 @@ loop-i-preserved c = (omega arith, omega arith, omega arith, node_turn _ _ _ c.l
 pub returns-clause-text : goal.returns-clause-text
 returns-clause-text c =
     let e : c.loop-i.i ≡ c.args.count = omega arith in
-    (rw (← e) (c.loop-i.invariant.3.bytes, c.loop-i.invariant.3.next)).0
+    rw (← e) c.loop-i.invariant.3.bytes
 
 pub returns-clause-end : goal.returns-clause-end
 returns-clause-end c =
     let e : c.loop-i.i ≡ c.args.count = omega arith in
-    (rw (← e) (c.loop-i.invariant.3.bytes, c.loop-i.invariant.3.next)).1
+    rw (← e) c.loop-i.invariant.3.next

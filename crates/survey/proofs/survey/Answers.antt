@@ -27,57 +27,45 @@ slice_bounds-line-end c = let here = first c.loop-line.invariant c.line_at-l.res
 pub line_fault-f-requires : goal.line_fault-f-requires
 line_fault-f-requires c = (c.word_places-places.ensures, c.loop-line.invariant.tabled)
 
--- TODO shape_of-nodes-then-f-ne0: placer found_of
---   let turn = (found_of c.before).before in turn.loop.inv.tabled.node_room ∙ sym (start_of turn).pre.0
+pub shape_of-nodes-then-f-ne0 : goal.shape_of-nodes-then-f-ne0
+shape_of-nodes-then-f-ne0 c = c.loop-line.invariant.tabled.node_room ∙ sym c.requires.0
 
--- TODO shape_of-links-then-f-ne0: placer found_of
---   let turn = (found_of c.before).before in turn.loop.inv.tabled.link_room ∙ sym (start_of turn).pre.1
+pub shape_of-links-then-f-ne0 : goal.shape_of-links-then-f-ne0
+shape_of-links-then-f-ne0 c = c.loop-line.invariant.tabled.link_room ∙ sym c.requires.1
 
--- TODO returns-then-f-ne0: placer found_of
---   let found = found_of c.before in
---       let going = found.before.loop.inv in
---       (refused going found.line_at_lem.result found.line_at_lem.ensures c.before.line-fault.result c.before.line-fault.ensures c.if1.true, going.tabled)
+pub returns-then-f-ne0-clause-told : goal.returns-then-f-ne0-clause-told
+returns-then-f-ne0-clause-told c = refused c.loop-line.invariant c.line_at-l.result c.line_at-l.ensures c.line_fault-f.result c.line_fault-f.ensures c.if-f-ne0.true
 
--- TODO take_line-p-requires: placer found_of
---   let passed = c.before.before.before in
---       let judged = passed.before in
---       let found = found_of judged in
---       let going = found.before.loop.inv in
---       let text = (start_of found.before).args.text.now in
---       let read = judged.before.before.before.before in
---       ((read.word-places.ensures, going.tabled), ((going.within, ap (λ (l : Line). passage found.before.loop.at l.end text) found.line_at_lem.ensures), faultless going found.line_at_lem.result found.line_at_lem.ensures judged.line-fault.ensures passed.if1.false))
+pub take_line-p-requires-clause-words : goal.take_line-p-requires-clause-words
+take_line-p-requires-clause-words c = (c.word_places-places.ensures, c.loop-line.invariant.tabled)
 
--- TODO shape_of-nodes-then-l: placer found_of
---   let taken = taken_of c.before in
---       let turn = (found_of (passed-of taken).before).before in
---       taken.take-line.ensures.1.node_room ∙ sym (start_of turn).pre.0
+pub take_line-p-requires-clause-at_in_bounds : goal.take_line-p-requires-clause-at_in_bounds
+take_line-p-requires-clause-at_in_bounds c =
+    (c.loop-line.invariant.within, ap (λ (l : Line). passage c.loop-line.at l.end c.args.text.now) c.line_at-l.ensures)
 
--- TODO shape_of-links-then-l: placer found_of
---   let taken = taken_of c.before in
---       let turn = (found_of (passed-of taken).before).before in
---       taken.take-line.ensures.1.link_room ∙ sym (start_of turn).pre.1
+pub take_line-p-requires-clause-line_value : goal.take_line-p-requires-clause-line_value
+take_line-p-requires-clause-line_value c = faultless c.loop-line.invariant c.line_at-l.result c.line_at-l.ensures c.line_fault-f.ensures c.if-f-ne0.false
 
--- TODO returns-then-l: placer found_of
---   let taken = taken_of c.before in
---       let passed = passed-of taken in
---       let found = found_of passed.before in
---       let known = taken.take-line.ensures in
---       (done found.before.loop.inv found.line_at_lem.result found.line_at_lem.ensures passed.before.line-fault.ensures passed.if1.left known.1 known.0 c.if2.true, known.1)
+pub shape_of-nodes-then-l : goal.shape_of-nodes-then-l
+shape_of-nodes-then-l c = c.take_line-p.ensures.tabled.node_room ∙ sym c.requires.0
 
--- TODO overflow_add-number: placer found_of
---   let found = found_of (passed-of (taken_of c.before)).before in
---       let going = found.before.loop.inv in
---       let here = first going found.line_at_lem.result found.line_at_lem.ensures in
---       omega (arith, going.few, here.further c.if2.false, here.within, (start_of found.before).good.0)
+pub shape_of-links-then-l : goal.shape_of-links-then-l
+shape_of-links-then-l c = c.take_line-p.ensures.tabled.link_room ∙ sym c.requires.1
 
--- TODO loop-line-smaller: placer found_of
---   let found = found_of (passed-of (taken_of c.before)).before in
---       let here = first found.before.loop.inv found.line_at_lem.result found.line_at_lem.ensures in
---       omega (arith, here.further c.if2.false, here.within)
+pub returns-then-l-clause-told : goal.returns-then-l-clause-told
+returns-then-l-clause-told c =
+    done c.loop-line.invariant c.line_at-l.result c.line_at-l.ensures c.line_fault-f.ensures c.if-f-ne0.false c.take_line-p.ensures.tabled c.take_line-p.ensures.known c.if-l.true
 
--- TODO loop-line-preserved: placer found_of
---   let taken = taken_of c.before in
---       let passed = passed-of taken in
---       let found = found_of passed.before in
---       let known = taken.take-line.ensures in
---       onward found.before.loop.inv found.line_at_lem.result found.line_at_lem.ensures passed.before.line-fault.ensures passed.if1.left known.1 known.0 c.if2.false
+pub overflow_add-number : goal.overflow_add-number
+overflow_add-number c =
+    let here = first c.loop-line.invariant c.line_at-l.result c.line_at-l.ensures in
+    omega (arith, c.loop-line.invariant.few, here.further c.if-l.false, here.within)
+
+pub loop-line-smaller : goal.loop-line-smaller
+loop-line-smaller c =
+    let here = first c.loop-line.invariant c.line_at-l.result c.line_at-l.ensures in
+    omega (arith, here.further c.if-l.false, here.within)
+
+pub loop-line-preserved : goal.loop-line-preserved
+loop-line-preserved c =
+    onward c.loop-line.invariant c.line_at-l.result c.line_at-l.ensures c.line_fault-f.ensures c.if-f-ne0.false c.take_line-p.ensures.tabled c.take_line-p.ensures.known c.if-l.false

@@ -7,4 +7,4 @@ pub returns-in-Closed : goal.returns-in-Closed
 returns-in-Closed c = closed_flow _ _ c.in-Closed.in-Closed-own.keys1
 
 pub returns-in_default : goal.returns-in_default
-returns-in_default c = other_flow _ _ c.in_default.in_default-own.keys2 _ c.first_flow.ensures
+returns-in_default c = other_flow _ _ c.in_default.not-Closed c.in_default.not-FixedClosed _ c.first_flow.ensures
