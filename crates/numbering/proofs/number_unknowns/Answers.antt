@@ -1,12 +1,12 @@
 -- `numbering::number_unknowns` meets its contract: after i nodes the column holds the numbers of the first i. Assumes nothing.
 use mathlib.Core.Path.{◌≡◌, sym, ap, ◌∙◌}
-use mathlib.Core.Logic.{⊎_elim}
 use Prim.Native.Nat.{ℕ, ◌+◌, ◌-◌}
 use native.Mathlib.Omega.{arith}
 use borrow.Author.Rules.{rules}
 use Rattle.numbering.specs.Numbering.{numbered}
 use Rattle.numbering.proofs.Numbers.{Numbered, start, room, after-in, after-out}
 use Rattle.numbering.proofs.number_unknowns.Goals as goal
+use Rattle.numbering.proofs.number_unknowns.Goals.{then-in_service, else-in_service}
 
 pub loop-i-init : goal.loop-i-init
 loop-i-init c = start _ _ _
@@ -28,10 +28,10 @@ bounds-unknowns-i-else-in_service c = omega (arith, c.loop-i.invariant.long, c.r
 
 pub loop-i-preserved : goal.loop-i-preserved
 loop-i-preserved c =
-    ⊎_elim
-    (λ w. after-in _ _ _ c.loop-i.invariant c.loop-i-test.true _ _ w.1 w.2 (sym c.in_service.ensures ∙ w.0.taken))
-    (λ w. after-out _ _ _ c.loop-i.invariant c.loop-i-test.true _ _ w.1 w.2 (sym c.in_service.ensures ∙ w.0.left))
-    c.if-in_service.branch
+    elim c.if-in_service.branch [
+      | then-in_service w ↦ after-in _ _ _ c.loop-i.invariant c.loop-i-test.true _ _ w.unknowns-is w.count-is (sym c.in_service.ensures ∙ w.if-in_service.true)
+      | else-in_service w ↦ after-out _ _ _ c.loop-i.invariant c.loop-i-test.true _ _ w.unknowns-is w.count-is (sym c.in_service.ensures ∙ w.if-in_service.false)
+    ]
 
 pub shape_of-unknowns : goal.shape_of-unknowns
 shape_of-unknowns c = c.loop-i.invariant.long
