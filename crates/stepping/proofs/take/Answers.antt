@@ -28,26 +28,21 @@ returns-in-Refused c =
     take-refused repair_of c.args.sheet.now (held c.args.h.now c.args.d.now c.args.f.now c.args.q.now c.args.c.now c.args.z.now c.args.sums.now c.args.counts.now) (lent c.args.heads.now c.args.demands.now c.args.flows.now c.args.statuses.now c.args.entries.now c.args.scratch.now) _ c.if-n-ne0.false c.read.ensures
     _ _ _ _ c.in-Refused.is c.refusal_number.ensures c.refusal_place.ensures c.refused.ensures
 
--- TODO take_one-requires: place ('After-take_one-arg14', 'After-options_of') passed whole
---   let e = c.before.before.before.before.before.before.before.before.before.before.before.before.before.before in
---       let h = e.before.before in
---       let o = h.before in
---       (sym (read_of o).read.ensures ∙ o.before.before.l.given.1, (ap (λ (o : Options). o.trials) o.options-of.ensures, enough _ _ _ (sym h.too_short_lem.ensures ∙ e.enum_told.given.1)))
+pub take_one-requires-clause-sheet_value : goal.take_one-requires-clause-sheet_value
+take_one-requires-clause-sheet_value c = sym c.read.ensures ∙ c.in-Good.is
 
--- TODO returns-in-At: place ('After-refused2', 'After-options_of') passed whole
---   let h = c.before.before.before.before in
---       let o = h.before in
---       let r = read_of o in
---       let a = (start_of r).args in
---       take_short repair_of a.sheet.now (held a.h.now a.d.now a.f.now a.q.now a.c.now a.z.now a.sums.now a.counts.now) (lent a.heads.now a.demands.now a.flows.now a.statuses.now a.entries.now a.scratch.now) _ r.before.if1.left r.read.ensures
---       _ _ _ o.before.before.l.given.1 (ap (λ (o : Options). o.trials) o.options-of.ensures) h.too_short_lem.ensures _ _ c.before.before.place.given.1 c.refused2.ensures
+pub take_one-requires-clause-trials_value : goal.take_one-requires-clause-trials_value
+take_one-requires-clause-trials_value c = ap (λ (o : Options). o.trials) c.options_of-options.ensures
 
--- TODO returns-in-Nothing: place ('After-slice_known12', 'After-options_of') passed whole
---   let v = c.before.before.before.before.before.before.before.before.before.before.before.before in
---       let e = v.before.before.before.before.before.before.before.before.before.before.before.before.before.before.before in
---       let h = e.before.before in
---       let o = h.before in
---       let r = read_of o in
---       let a = (start_of r).args in
---       take_runs repair_of a.sheet.now (held a.h.now a.d.now a.f.now a.q.now a.c.now a.z.now a.sums.now a.counts.now) (lent a.heads.now a.demands.now a.flows.now a.statuses.now a.entries.now a.scratch.now) _ r.before.if1.left r.read.ensures
---       _ _ _ o.before.before.l.given.1 (ap (λ (o : Options). o.trials) o.options-of.ensures) h.too_short_lem.ensures _ e.enum_told.given.1 v.take-one.ensures
+pub take_one-requires-clause-enough : goal.take_one-requires-clause-enough
+take_one-requires-clause-enough c = enough _ _ _ (sym c.too_short.ensures ∙ c.in-Nothing.is)
+
+pub returns-in-At : goal.returns-in-At
+returns-in-At c =
+    take_short repair_of c.args.sheet.now (held c.args.h.now c.args.d.now c.args.f.now c.args.q.now c.args.c.now c.args.z.now c.args.sums.now c.args.counts.now) (lent c.args.heads.now c.args.demands.now c.args.flows.now c.args.statuses.now c.args.entries.now c.args.scratch.now) _ c.if-n-ne0.false c.read.ensures
+    _ _ _ c.in-Good.is (ap (λ (o : Options). o.trials) c.options_of-options.ensures) c.too_short.ensures _ _ c.in-At.is c.refused-in-At.ensures
+
+pub returns-in-Nothing : goal.returns-in-Nothing
+returns-in-Nothing c =
+    take_runs repair_of c.args.sheet.now (held c.args.h.now c.args.d.now c.args.f.now c.args.q.now c.args.c.now c.args.z.now c.args.sums.now c.args.counts.now) (lent c.args.heads.now c.args.demands.now c.args.flows.now c.args.statuses.now c.args.entries.now c.args.scratch.now) _ c.if-n-ne0.false c.read.ensures
+    _ _ _ c.in-Good.is (ap (λ (o : Options). o.trials) c.options_of-options.ensures) c.too_short.ensures _ c.in-Nothing.is c.take_one.ensures

@@ -36,13 +36,13 @@ next_turn-turn-requires-clause-room c =
     let net = network_of _ _ c.requires.sheet_value in
     let few = few_trials _ _ c.requires.sheet_value in
     record {
-            heads = omega (arith, net.nodes, c.next_turn-arg-1.given);
-            demands = omega (arith, net.nodes, c.next_turn-arg-2-1.given);
-            drawn = omega (arith, net.nodes, c.next_turn-arg-3-1.given);
-            flows = omega (arith, net.links, c.next_turn-arg-4-1.given);
-            statuses = omega (arith, net.links, c.next_turn-arg-5-1.given);
-            grounded = omega (arith, net.nodes, c.marks_in-marks.type-inv);
-          }
+      heads = omega (arith, net.nodes, c.told-h);
+      demands = omega (arith, net.nodes, c.told-d);
+      drawn = omega (arith, net.nodes, c.told-f);
+      flows = omega (arith, net.links, c.told-q);
+      statuses = omega (arith, net.links, c.told-c);
+      grounded = omega (arith, net.nodes, c.marks_in-marks.type_inv);
+    }
 
 pub next_turn-turn-requires-clause-trials_bound : goal.next_turn-turn-requires-clause-trials_bound
 next_turn-turn-requires-clause-trials_bound c =
@@ -67,14 +67,13 @@ conclude-a-requires-clause-nodes_in_bounds c =
 
 pub conclude-a-requires-clause-nodes_in_bounds_2 : goal.conclude-a-requires-clause-nodes_in_bounds_2
 conclude-a-requires-clause-nodes_in_bounds_2 c =
-    let net = network_of _ _ c.requires.sheet_value in
-    (
-            omega (arith, net.nodes, c.conclude-arg-in-Over-1.given),
-            omega (arith, net.nodes, c.conclude-arg-in-Over-3-1.given),
-            omega (arith, net.nodes, c.conclude-arg-in-Over-5-1.given),
-            omega (arith, net.links, c.conclude-arg-in-Over-7-1.given),
-            omega (arith, net.links, c.conclude-arg-in-Over-9-1.given),
-          )
+    let net = network_of _ _ c.requires.sheet_value in (
+      omega (arith, net.nodes, c.told-h, c.next_turn-turn.auto.h),
+      omega (arith, net.nodes, c.told-d, c.next_turn-turn.auto.d),
+      omega (arith, net.nodes, c.told-f, c.next_turn-turn.auto.f),
+      omega (arith, net.links, c.told-q, c.next_turn-turn.auto.q),
+      omega (arith, net.links, c.told-c, c.next_turn-turn.auto.c),
+    )
 
 pub returns-in-On : goal.returns-in-On
 returns-in-On c =

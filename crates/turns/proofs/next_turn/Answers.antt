@@ -39,53 +39,52 @@ list_at_nodes-requires-clause-links_bound c = omega (arith, c.requires.network.n
 pub advance-requires-clause-network : goal.advance-requires-clause-network
 advance-requires-clause-network c =
     let wiped : c.clear.new.x ≡ zeros 4096 = c.clear.ensures ∙ cleared_zeros 4096 _ c.requires.trials_bound.1.1 in
-    let w = due_is c.args.trials c.args.tally (sym c.due.ensures ∙ so _ c.if-not-due.left) in
+    let w = due_is c.args.trials c.args.tally (sym c.due.ensures ∙ c.if-not-due.false) in
     c.requires.network
 
 pub advance-requires-clause-links_at : goal.advance-requires-clause-links_at
 advance-requires-clause-links_at c =
     let wiped : c.clear.new.x ≡ zeros 4096 = c.clear.ensures ∙ cleared_zeros 4096 _ c.requires.trials_bound.1.1 in
-    let w = due_is c.args.trials c.args.tally (sym c.due.ensures ∙ so _ c.if-not-due.left) in
+    let w = due_is c.args.trials c.args.tally (sym c.due.ensures ∙ c.if-not-due.false) in
     c.list_at_nodes.ensures.right
 
 pub advance-requires-clause-nodes_in_bounds : goal.advance-requires-clause-nodes_in_bounds
 advance-requires-clause-nodes_in_bounds c =
     let wiped : c.clear.new.x ≡ zeros 4096 = c.clear.ensures ∙ cleared_zeros 4096 _ c.requires.trials_bound.1.1 in
-    let w = due_is c.args.trials c.args.tally (sym c.due.ensures ∙ so _ c.if-not-due.left) in
-    (
-            omega (arith, c.requires.network.nodes, c.number_unknowns.auto.unknowns),
-            subst (λ (x : List ℕ). RowsRight c.args.l c.args.sheet.now x) (sym c.number_unknowns.ensures) (rows_right c.args.sheet.now c.args.l _ (omega (arith, c.requires.network.nodes)) (omega (arith, c.requires.network.nodes))),
-          )
+    let w = due_is c.args.trials c.args.tally (sym c.due.ensures ∙ c.if-not-due.false) in (
+      omega (arith, c.requires.network.nodes, c.number_unknowns.auto.unknowns),
+      subst (λ (x : List ℕ). RowsRight c.args.l c.args.sheet.now x) (sym c.number_unknowns.ensures) (rows_right c.args.sheet.now c.args.l _ (omega (arith, c.requires.network.nodes)) (omega (arith, c.requires.network.nodes))),
+    )
 
 pub advance-requires-clause-table_value : goal.advance-requires-clause-table_value
 advance-requires-clause-table_value c =
     let wiped : c.clear.new.x ≡ zeros 4096 = c.clear.ensures ∙ cleared_zeros 4096 _ c.requires.trials_bound.1.1 in
-    let w = due_is c.args.trials c.args.tally (sym c.due.ensures ∙ so _ c.if-not-due.left) in
+    let w = due_is c.args.trials c.args.tally (sym c.due.ensures ∙ c.if-not-due.false) in
     c.power_table-table.ensures
 
 pub advance-requires-clause-room : goal.advance-requires-clause-room
 advance-requires-clause-room c =
     let wiped : c.clear.new.x ≡ zeros 4096 = c.clear.ensures ∙ cleared_zeros 4096 _ c.requires.trials_bound.1.1 in
-    let w = due_is c.args.trials c.args.tally (sym c.due.ensures ∙ so _ c.if-not-due.left) in
+    let w = due_is c.args.trials c.args.tally (sym c.due.ensures ∙ c.if-not-due.false) in
     c.requires.room
 
 pub advance-requires-clause-trials_bound : goal.advance-requires-clause-trials_bound
 advance-requires-clause-trials_bound c =
     let wiped : c.clear.new.x ≡ zeros 4096 = c.clear.ensures ∙ cleared_zeros 4096 _ c.requires.trials_bound.1.1 in
-    let w = due_is c.args.trials c.args.tally (sym c.due.ensures ∙ so _ c.if-not-due.left) in
+    let w = due_is c.args.trials c.args.tally (sym c.due.ensures ∙ c.if-not-due.false) in
     omega (arith, w, c.requires.trials_bound)
 
 pub advance-requires-clause-trials_in_bounds : goal.advance-requires-clause-trials_in_bounds
 advance-requires-clause-trials_in_bounds c =
     let wiped : c.clear.new.x ≡ zeros 4096 = c.clear.ensures ∙ cleared_zeros 4096 _ c.requires.trials_bound.1.1 in
-    let w = due_is c.args.trials c.args.tally (sym c.due.ensures ∙ so _ c.if-not-due.left) in
+    let w = due_is c.args.trials c.args.tally (sym c.due.ensures ∙ c.if-not-due.false) in
     (omega (arith, w, c.requires.trials_bound), wiped)
 
 pub shape_of-scratch : goal.shape_of-scratch
 shape_of-scratch c = c.advance.auto.scratch ∙ c.clear.auto.x
 
 pub returns-clause-turn : goal.returns-clause-turn
-returns-clause-turn c = c.advance.ensures.turn ∙ next_due repair_of c.args.sheet.now c.args.l c.args.trials c.args.damping c.args.tally c.args.entries.now (state c.args.h.now c.args.d.now c.args.f.now c.args.q.now c.args.c.now c.args.z.now) (sym c.due.ensures ∙ so _ c.if-not-due.left)
+returns-clause-turn c = c.advance.ensures.turn ∙ next_due repair_of c.args.sheet.now c.args.l c.args.trials c.args.damping c.args.tally c.args.entries.now (state c.args.h.now c.args.d.now c.args.f.now c.args.q.now c.args.c.now c.args.z.now) (sym c.due.ensures ∙ c.if-not-due.false)
 
 pub returns-clause-cleared : goal.returns-clause-cleared
 returns-clause-cleared c = c.advance.ensures.cleared
