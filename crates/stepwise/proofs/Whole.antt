@@ -160,15 +160,15 @@ module _ (repair : Repair) (s : List ℕ) (l : Layout) (good : read_of s ≡ Goo
     abbrev next-call : Going → Went
     next-call g = onward (after_turn s l (trials_of s) (damping_in h.sums) b u g) go
 
-    counts_of : Counts (tally_in h.counts) u.turn.tally
-    counts_of = turn_counts repair s l 0 (damping_in h.sums) (tally_in h.counts) b.entries (state_in h) u turn
+    counts_of_lem : Counts (tally_in h.counts) u.turn.tally
+    counts_of_lem = turn_counts repair s l 0 (damping_in h.sums) (tally_in h.counts) b.entries (state_in h) u turn
 
     over-call : (z : Ended) → u.turn.going ≡ Over z → Comes start b (ending h b) (next-call (follows (trials_of s) u.turn.tally u.turn.going))
     over-call z e =
         subst (λ (f : Finished). Comes start b f (next-call (follows (trials_of s) u.turn.tally u.turn.going)))
         (run_over repair s l (trials_of s) (damping_in h.sums) (tally_in h.counts) b.entries (state_in h) u z w.more turn e)
         (subst (λ (g : Going). Comes start b (end_of u z) (next-call g)) (follow_over (trials_of s) u.turn.tally u.turn.going z e)
-        (last_call start (damping_in h.sums) b u z go counts_of.trials))
+        (last_call start (damping_in h.sums) b u z go counts_of_lem.trials))
 
     -- the rest of the run
     rest : (next : Damping) → u.turn.going ≡ On next
@@ -181,7 +181,7 @@ module _ (repair : Repair) (s : List ℕ) (l : Layout) (good : read_of s ≡ Goo
         subst (λ (f : Finished). Comes start b f (next-call (follows (trials_of s) u.turn.tally u.turn.going)))
         (run_limit repair s l (trials_of s) next u.turn.tally u.bytes u.state m ∙ rest next e)
         (subst (λ (g : Going). Comes start b (end_of u Limit) (next-call g)) (follow_limit (trials_of s) u.turn.tally u.turn.going next e m)
-        (last_call start (damping_in h.sums) b u Limit go counts_of.trials))
+        (last_call start (damping_in h.sums) b u Limit go counts_of_lem.trials))
 
     more-call : (next : Damping) → u.turn.going ≡ On next → u.turn.tally.trials < trials_of s
         → Comes (tally_in (after_of next u).counts).trials (later b u.bytes) (ending (after_of next u) (later b u.bytes)) (go (after_of next u) (later b u.bytes))
@@ -191,13 +191,13 @@ module _ (repair : Repair) (s : List ℕ) (l : Layout) (good : read_of s ≡ Goo
         let from : Comes u.turn.tally.trials (later b u.bytes) (ending (after_of next u) (later b u.bytes)) (go (after_of next u) (later b u.bytes)) =
         subst (λ (x : Tally). Comes x.trials (later b u.bytes) (ending (after_of next u) (later b u.bytes)) (go (after_of next u) (later b u.bytes))) (after_tally next u) c in
         subst (λ (g : Going). Comes start b (ending h b) (next-call g)) (follow_on (trials_of s) u.turn.tally u.turn.going next e m)
-        (one_more start (damping_in h.sums) next b u (ending h b) go counts_of.trials
+        (one_more start (damping_in h.sums) next b u (ending h b) go counts_of_lem.trials
         (subst (λ (f : Finished). Comes u.turn.tally.trials (later b u.bytes) f (go (after_of next u) (later b u.bytes))) (after_ending next u b ∙ rest next e) from))
 
     after-due : (next : Damping) → u.turn.tally.trials < trials_of s → due (trials_of s) (tally_in (after_of next u).counts) ≡ true
     after-due next m =
         rw (after_tally next u)
-        (is_due (trials_of s) u.turn.tally (record { more = m; freed = omega (arith, counts_of, w.freed); grounded = omega (arith, counts_of, w.grounded) }))
+        (is_due (trials_of s) u.turn.tally (record { more = m; freed = omega (arith, counts_of_lem, w.freed); grounded = omega (arith, counts_of_lem, w.grounded) }))
 
   -- a turn keeps the record's length
   turn_long : (d : Damping) (tally : Tally) (r : List ℕ) (t : State) → length (turn_of repair s l d tally r t).bytes ≡ length r
@@ -220,7 +220,7 @@ module _ (repair : Repair) (s : List ℕ) (l : Layout) (good : read_of s ≡ Goo
   after_ready n h b next r m =
       let u = turn_of_lem h b in
       let w = due_is _ _ r.due in
-      let k = counts_of h b u refl w (λ h' b'. record { calls = 0; last = unchanged (more none) h' b' }) in
+      let k = counts_of_lem h b u refl w (λ h' b'. record { calls = 0; last = unchanged (more none) h' b' }) in
       record {
         enough = later_enough l (trials_of s) b u.bytes (turn_long (damping_in h.sums) (tally_in h.counts) b.entries (state_in h)) r.enough;
         first = refl;
