@@ -29,7 +29,7 @@ class Contracts(unittest.TestCase):
         of = {(f.crate, f.name): f for f in self.found}
         solve = of["solver", "solve"]
         self.assertEqual((solve.result, solve.buffers, solve.definitions),
-                         ("Answer", ["heads", "demands", "flows", "statuses", "entries", "scratch"], ["solveOf"]))
+                         ("Answer", ["heads", "demands", "flows", "statuses", "entries", "scratch"], ["solve_of"]))
         self.assertEqual(of["words", "put_number"].settled, {"result", "out"})
         self.assertEqual(of["sale", "sell"].fields, {"answer", "verdict"})
         self.assertEqual(of["standard", "put_item"].settled, {"out"})
@@ -55,7 +55,7 @@ pub record Put (old : List ℕ) (n : ℕ) (new : List ℕ) (end : ℕ) : Type 0 
 pub record Long (new : List ℕ) (end : ℕ) : Type 0 where
   pub next : end ≤ length new
 """
-USES = "ghost use Rattle·a·specs.specs.A.{Both, both, twice, made, Put, Long};\n"
+USES = "ghost use Rattle.a.specs.A.{Both, both, twice, made, Put, Long};\n"
 STRUCT = "pub struct Two {\n    pub x: u8,\n    y: u8,\n}\n\n"
 
 
@@ -73,9 +73,9 @@ def read_contract(head, *clauses):
 
 
 LENT = "(x: &mut [u8], y: &mut [u8], n: usize) -> usize"
-X = "{ λ _. ⌜ now (x .exit) ≡ made (now (x .entry)) n ⌝ }"
-Y = "{ λ _. ⌜ now (y .exit) ≡ made (now (y .entry)) n ⌝ }"
-N = "{ λ r. ⌜ r ≡ n ⌝ }"
+X = "{ x.new ≡ made x.old n }"
+Y = "{ y.new ≡ made y.old n }"
+N = "{ result ≡ n }"
 
 
 class MadeUp(unittest.TestCase):
@@ -90,50 +90,50 @@ class MadeUp(unittest.TestCase):
 
     def test_of_the_form(self):
         self.has(LENT, X, Y, N)
-        self.has(LENT, "first { λ r. ⌜ (now (x .exit) ≡ made (now (x .entry)) n) × (r ≡ n) ⌝ }", Y)
-        self.has(LENT, "{ λ _. ⌜ both (now (x .exit)) (now (y .exit)) ≡ both (made (now (x .entry)) n) (now (y .entry)) ⌝ }", N)
-        self.has(LENT, "{ λ _. ⌜ record { first = now (x .exit); second = now (y .exit) } ≡ both (now (x .entry)) (now (y .entry)) ⌝ }", N)
-        self.has(LENT, "{ λ r. ⌜ Put (now (x .entry)) n (now (x .exit)) r ⌝ }", Y)
-        self.has("(x: &mut [u8])", "{ λ _. ⌜ ((b : List ℕ) → both (now (x .exit)) b ≡ both (now (x .entry)) b) ⌝ }")
-        self.has("(n: u8) -> Two", "{ λ r. ⌜ (r .x ≡ n) × (r .y ≡ n) ⌝ }")
+        self.has(LENT, "first { (x.new ≡ made x.old n) × (result ≡ n) }", Y)
+        self.has(LENT, "{ both x.new y.new ≡ both (made x.old n) y.old }", N)
+        self.has(LENT, "{ record { first = x.new; second = y.new } ≡ both x.old y.old }", N)
+        self.has(LENT, "{ Put x.old n x.new result }", Y)
+        self.has("(x: &mut [u8])", "{ ((b : List ℕ) → both x.new b ≡ both x.old b) }")
+        self.has("(n: u8) -> Two", "{ (result.x ≡ n) × (result.y ≡ n) }")
         self.has("(n: u8)")
 
     def test_more_than_the_form(self):
-        self.has(LENT, X, Y, N, "{ λ r. ⌜ r ≤ length (now (x .exit)) ⌝ }",
-                 "{ λ _. ⌜ length (now (x .exit)) ≡ length (now (x .entry)) ⌝ }")
+        self.has(LENT, X, Y, N, "{ result ≤ length x.new }",
+                 "{ length x.new ≡ length x.old }")
 
     def test_a_buffer_that_is_left_out(self):
         self.lacks("y", LENT, X, N)
         self.lacks("x y", LENT, N)
-        self.lacks("y", LENT, "{ λ _. ⌜ both (now (x .exit)) (now (y .entry)) ≡ both (now (x .entry)) (now (y .entry)) ⌝ }", N)
+        self.lacks("y", LENT, "{ both x.new y.old ≡ both x.old y.old }", N)
         self.lacks("y", LENT.replace("y: &mut", "y: &'a mut").replace("(x", "<'a>(x", 1), X, N)
 
     def test_a_result_that_is_left_out(self):
         self.lacks("result", LENT, X, Y)
-        self.lacks("result", "(n: u8) -> Two", "{ λ r. ⌜ r .x ≡ n ⌝ }")
+        self.lacks("result", "(n: u8) -> Two", "{ result.x ≡ n }")
 
     def test_no_equation(self):
-        self.assertIn("no equation", self.lacks("result", LENT, X, Y, "{ λ r. ⌜ r ≤ n ⌝ }"))
-        self.lacks("result", LENT, X, Y, "{ λ r. ⌜ (r ≡ n) ⊎ (r ≡ 0) ⌝ }")
-        self.lacks("result", LENT, X, Y, "{ λ r. ⌜ Long (now (x .exit)) r ⌝ }")
-        self.lacks("result", LENT, X, Y, "{ λ r. ⌜ (r ≡ n ⌝ }")
+        self.assertIn("no equation", self.lacks("result", LENT, X, Y, "{ result ≤ n }"))
+        self.lacks("result", LENT, X, Y, "{ (result ≡ n) ⊎ (result ≡ 0) }")
+        self.lacks("result", LENT, X, Y, "{ Long x.new result }")
+        self.lacks("result", LENT, X, Y, "{ (result ≡ n }")
 
     def test_a_right_side_that_names_what_comes_out(self):
         why = "a right side that names what comes out"
-        self.assertIn(why, self.lacks("y", LENT, X, "{ λ _. ⌜ now (y .exit) ≡ made (now (x .exit)) n ⌝ }", N))
-        self.assertIn(why, self.lacks("y", LENT, X, "{ λ r. ⌜ now (y .exit) ≡ made (now (y .entry)) r ⌝ }", N))
-        self.assertIn(why, self.lacks("result", LENT, X, Y, "{ λ r. ⌜ r ≡ length (now (x .exit)) ⌝ }"))
+        self.assertIn(why, self.lacks("y", LENT, X, "{ y.new ≡ made x.new n }", N))
+        self.assertIn(why, self.lacks("y", LENT, X, "{ y.new ≡ made y.old result }", N))
+        self.assertIn(why, self.lacks("result", LENT, X, Y, "{ result ≡ length x.new }"))
 
     def test_a_left_side_that_cannot_be_read_back(self):
-        self.lacks("result", LENT, X, Y, "{ λ r. ⌜ r + 1 ≡ n ⌝ }")
-        self.lacks("x", LENT, "{ λ _. ⌜ made (now (x .exit)) 0 ≡ now (x .entry) ⌝ }", Y, N)
-        self.lacks("x y", LENT, "{ λ _. ⌜ twice (now (x .exit)) (now (y .exit)) ≡ twice (now (x .entry)) (now (y .entry)) ⌝ }", N)
-        self.lacks("x", LENT, "{ λ _. ⌜ record { first = now (x .exit) } ≡ both (now (x .entry)) (now (y .entry)) ⌝ }", Y, N)
+        self.lacks("result", LENT, X, Y, "{ result + 1 ≡ n }")
+        self.lacks("x", LENT, "{ made x.new 0 ≡ x.old }", Y, N)
+        self.lacks("x y", LENT, "{ twice x.new y.new ≡ twice x.old y.old }", N)
+        self.lacks("x", LENT, "{ record { first = x.new } ≡ both x.old y.old }", Y, N)
 
     def test_a_condition(self):
-        self.lacks("result", LENT, X, Y, "{ λ r. ⌜ ((n ≡ 0) → r ≡ n) ⌝ }")
-        self.lacks("result", LENT, X, Y, "{ λ r. ⌜ ((p : ⊥) → r ≡ n) ⌝ }")
-        self.lacks("result", LENT, X, Y, "{ λ r. ⌜ ((r : List ℕ) → r ≡ n) ⌝ }")
+        self.lacks("result", LENT, X, Y, "{ ((n ≡ 0) → result ≡ n) }")
+        self.lacks("result", LENT, X, Y, "{ ((p : ⊥) → result ≡ n) }")
+        self.lacks("result", LENT, X, Y, "{ ((result : List ℕ) → result ≡ n) }")
 
     def test_exceptions(self):
         bad, good = read_contract(LENT, X, N), read_contract(LENT, X, Y, N)

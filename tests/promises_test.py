@@ -2,9 +2,13 @@
 import glob
 import os
 import re
+import sys
 import unittest
 
 ROOT = os.path.dirname(os.path.dirname(os.path.abspath(__file__)))
+sys.path.insert(0, os.path.join(ROOT, "tools"))
+
+from wrong_programs import passed_on
 
 
 def read(*parts):
@@ -22,7 +26,7 @@ def public_functions(crate):
     """Those of lib.rt itself, and those of its modules that it passes on."""
     top = read("crates", crate, "src", "lib.rt")
     found = re.findall(r'^pub (?:extern "C" )?fn (\w+)', top, re.M)
-    for module, name in re.findall(r"^pub use (\w+)::(\w+);", top, re.M):
+    for module, name in passed_on(top):
         path = os.path.join("crates", crate, "src", module + ".rt")
         if os.path.exists(os.path.join(ROOT, path)) and re.search(r"^pub fn %s\b" % name, read(path), re.M):
             found.append(name)

@@ -25,7 +25,8 @@ from coordinator import crates, programs
 from wrong_programs import Sources
 
 PAPER = os.path.join("docs", "EQUAL.md")
-TOKEN = re.compile(r"«[^»]*»|\.\w[\w-]*|[()\[\]{};=]|λ|⌜|⌝|≡|×|≤|<|→|:|[^\s()\[\]{};=⌜⌝]+")
+TOKEN = re.compile(r"«[^»]*»|\.\w[\w-]*|[()\[\]{};=]|λ|≡|×|≤|<|→|:|[^\s()\[\]{};=.]+")
+RESULT = "result"
 # of these there is always one, so that a contract for all of them says something
 INHABITED = {"List", "ℕ", "Bool", "Float"}
 
@@ -190,7 +191,7 @@ def imported(text):
 
 def home(module):
     """(crate, module of its specs/) of a module, or None where it is the kit's."""
-    found = re.match(r"Rattle·(\w+?)(?:·specs)?\.specs\.(.+)$", module)
+    found = re.match(r"Rattle\.(\w+)\.specs\.(.+)$", module)
     return found and (found.group(1), found.group(2))
 
 
@@ -206,14 +207,14 @@ class Function:
                          % name, text, re.M | re.S)
         self.buffers = re.findall(r"(\w+): &(?:'\w+ )?mut ", head.group(1))
         self.result = (head.group(2) or "").strip()
-        self.clauses = re.findall(r"^    ensures (?:\w+ )?\{ λ (\S+)\. ⌜ (.*) ⌝ \}$", head.group(3), re.M)
+        self.clauses = re.findall(r"^    ensures (?:\w+ )?\{ (.*) \}$", head.group(3), re.M)
         self.settled, self.fields, self.definitions, self.passed_over = set(), set(), [], []
-        for variable, clause in self.clauses:
-            self.clause(variable, clause)
+        for clause in self.clauses:
+            self.clause(clause)
         fields = self.fields and struct_fields(self.texts, self.result)
         if fields and self.fields == set(fields):
-            self.settled.add("result")
-        needed = ["result"] * bool(self.result) + self.buffers
+            self.settled.add(RESULT)
+        needed = [RESULT] * bool(self.result) + self.buffers
         self.faults = ["nothing settles %s" % name for name in needed if name not in self.settled]
         self.faults += self.faults and self.passed_over
 
@@ -221,33 +222,33 @@ class Function:
         """Where a name of the contract is defined, (crate, module of its specs/); None where not in this repository."""
         return home(self.names[name][0]) if name in self.names else None
 
-    def clause(self, variable, text):
+    def clause(self, text):
         try:
-            self.read(variable, grouped(tokens(text)), set())
+            self.read(grouped(tokens(text)), set())
         except Unreadable as why:
             self.passed_over.append(str(why))
 
-    def read(self, variable, prop, bound):
+    def read(self, prop, bound):
         """What a clause settles; where it has not the form, it settles nothing."""
         try:
-            self.said(variable, bare(prop), bound)
+            self.said(bare(prop), bound)
         except Unreadable as why:
             self.passed_over.append(str(why))
 
-    def said(self, variable, prop, bound):
+    def said(self, prop, bound):
         if "→" in prop:
             prop, bound = self.without_binders(prop, bound)
-            if variable in bound:
+            if RESULT in bound:
                 raise Unreadable("a name that stands for something else")
-            return self.read(variable, prop, bound)
+            return self.read(prop, bound)
         parts, sides = split(prop, "×"), split(prop, "≡")
         if len(parts) > 1 and all(len(part) == 1 for part in parts):
             for part in parts:
-                self.read(variable, part, bound)
+                self.read(part, bound)
         elif len(parts) == 1 and len(sides) == 2:
-            self.equation(variable, bare(sides[0]), bare(sides[1]), bound)
+            self.equation(bare(sides[0]), bare(sides[1]), bound)
         else:
-            self.predicate(variable, prop, bound)
+            self.predicate(prop, bound)
 
     @staticmethod
     def without_binders(prop, bound):
@@ -262,7 +263,7 @@ class Function:
             bound = bound | set(group[1:at])
         return prop[end + 1:], bound
 
-    def predicate(self, variable, prop, bound):
+    def predicate(self, prop, bound):
         """A record of equations is these; anything else says more and settles nothing."""
         name = prop[0] if isinstance(prop[0], str) else None
         found = self.home(name) and self.specs.equations(*self.home(name), self.names[name][1])
@@ -274,22 +275,22 @@ class Function:
             raise Unreadable("a predicate without all that it is about")
         self.definitions += [word for word in defined if word not in self.definitions]
         for field in fields:
-            self.read(variable, replaced(grouped(tokens(field)), dict(zip(names, given))), bound)
+            self.read(replaced(grouped(tokens(field)), dict(zip(names, given))), bound)
 
-    def equation(self, variable, left, right, bound):
-        if not self.comes_out(variable, left):
+    def equation(self, left, right, bound):
+        if not self.comes_out(left):
             raise Unreadable("a left side that names nothing that comes out")
-        if self.comes_out(variable, right):
+        if self.comes_out(right):
             raise Unreadable("a right side that names what comes out")
-        self.part(variable, left)
+        self.part(left)
         for word in flat(right):
             self.define(word, bound)
         if not self.definitions:
             self.definitions.append(" ".join(flat(right)))
 
-    def comes_out(self, variable, term):
-        words = list(flat(term))
-        return ".exit" in words or (variable != "_" and variable in words)
+    @staticmethod
+    def comes_out(term):
+        return not {RESULT, ".new", ".exit"}.isdisjoint(flat(term))
 
     def define(self, word, bound):
         """Notes what a right side is made of, but for records and what the kit knows of lists."""
@@ -297,25 +298,25 @@ class Function:
         if word in self.names and re.match("[a-z]", word) and not record and word not in {"length", *bound, *self.definitions}:
             self.definitions.append(word)
 
-    def part(self, variable, term):
+    def part(self, term):
         """A part of a left side: settles what it names, or names nothing that comes out."""
         term = bare(term)
-        if term == [variable] or term == ["now", variable]:
-            self.settled.add("result")
-        elif len(term) == 2 and term[0] == variable and isinstance(term[1], str) and term[1].startswith("."):
+        if term in ([RESULT], [RESULT, ".now"]):
+            self.settled.add(RESULT)
+        elif len(term) == 2 and term[0] == RESULT and isinstance(term[1], str) and term[1].startswith("."):
             self.fields.add(term[1][1:])
-        elif len(term) == 2 and term[0] == "now" and isinstance(term[1], list) and len(term[1]) == 3 and term[1][2] == ".exit":
-            self.settled.add(term[1][1].strip("«»"))
+        elif isinstance(term[0], str) and term[1:] in ([".new"], [".exit", ".now"]):
+            self.settled.add(term[0].strip("«»"))
         elif len(term) == 1 and isinstance(term[0], list) and term[0][0] == "record":
             fields = [split(field, "=") for field in split(term[0][1:], ";")]
             if any(len(field) != 2 for field in fields) or not self.specs.has_record([field[0][0].strip("«»") for field in fields]):
                 raise Unreadable("a record without all its fields")
             for _, value in fields:
-                self.part(variable, value)
-        elif self.comes_out(variable, term):
-            self.made(variable, term)
+                self.part(value)
+        elif self.comes_out(term):
+            self.made(term)
 
-    def made(self, variable, term):
+    def made(self, term):
         """An application on a left side: an abbreviation that makes a record of all its arguments."""
         name = term[0] if isinstance(term[0], str) else None
         parts = self.home(name) and self.specs.parts(*self.home(name), self.names[name][1])
@@ -325,7 +326,7 @@ class Function:
         if parts[0] != parts[1] or len(given) != len(parts[0]):
             raise Unreadable("an abbreviation that drops an argument")
         for value in given:
-            self.part(variable, value)
+            self.part(value)
 
 
 def functions(root):

@@ -46,6 +46,13 @@ def part(edit):
     return "src" if "src" in parts else parts[0]
 
 
+def passed_on(source):
+    """Module and name of whatever a source passes on: `pub use m::f;` and `pub use m::{f, g};`, on one line or several."""
+    for module, one, several in re.findall(r"^pub use (\w+)::(?:(\w+)|\{([^}]*)\});", source, re.M):
+        for name in re.findall(r"\w+", one or several):
+            yield module, name
+
+
 class Sources:
     """The functions and constants of a crate's src/, and who names whom."""
 
@@ -68,7 +75,7 @@ class Sources:
         """The public functions: those of lib.rt, and those of its modules that it passes on."""
         top = self.texts.get("src/lib.rt", "")
         found = {("src/lib.rt", name) for name in re.findall(r'^pub (?:extern "C" )?fn (\w+)', top, re.M)}
-        for module, name in re.findall(r"^pub use (\w+)::(\w+);", top, re.M):
+        for module, name in passed_on(top):
             file = "src/%s.rt" % module
             if re.search(r"^pub fn %s\b" % name, self.texts.get(file, ""), re.M):
                 found.add((file, name))
