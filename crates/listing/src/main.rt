@@ -29,7 +29,7 @@ fn read_long<R: Read, W: Write>(reader: &mut R, writer: &mut W, buffer: &mut [u8
     requires { length buffer.old ≤ 65536 }
 {
     let mut p = stream::feed(Progress::Options(0), buffer);
-    for _ in 0..1099511627775u64 {
+    for turn in 0..1099511627775u64 {
         let n = standard::fill(reader, buffer)?;
         if n == 0 {
             break;
