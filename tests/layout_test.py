@@ -14,8 +14,8 @@ READ = {"fields", "ends", "sheet", "accepted", "stream", "long_sheets"}
 TELL = {os.path.join("crates", "promises", "specs", "Places.antt")}
 
 OFFSETS = re.compile(
-    r"\b(node_place|link_place|pair_at|node_at|link_at|nodePlace|linkPlace|nodeOffset|linkOffset|pairAt|byteAt|nodeAt|linkAt)\b"
-    r"|\b(from_bytes|fromBytes) ?\(?(sheet|s)\b|\bsheet\["
+    r"\b(node_place|link_place|pair_at|node_at|link_at|node_offset|link_offset|byte_at)\b"
+    r"|\bfrom_bytes ?\(?(sheet|s)\b|\bsheet\["
 )
 
 
@@ -37,9 +37,9 @@ class Offsets(unittest.TestCase):
         self.assertEqual({path: names for path, names in found.items() if names and path not in TELL}, {})
 
     def test_it_would_see_one(self):
-        for line in ("sheet[at + 2]", "pair_at(sheet, 5)", "byteAt s (linkPlace l j + 2)", "fromBytes s 18"):
+        for line in ("sheet[at + 2]", "pair_at(sheet, 5)", "byte_at s (link_place l j + 2)", "from_bytes s 18", "from_bytes sheet.now 18"):
             self.assertTrue(OFFSETS.search(line), line)
-        self.assertFalse(OFFSETS.search("repairAt s l codes"))
+        self.assertFalse(OFFSETS.search("repair_at s l codes"))
 
 
 if __name__ == "__main__":

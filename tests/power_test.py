@@ -76,7 +76,7 @@ class Page(unittest.TestCase):
 
     def test_the_statement_is_the_one_that_is_sampled(self):
         text = read("crates/closeness/specs/Close.antt").decode()
-        self.assertIn("Closer = (x : Float) → Argument x → Within %d %d x (powerOf x)" % (BELOW, ABOVE), text)
+        self.assertIn("Closer = (x : Float) → Argument x → Within %d %d x (power_of x)" % (BELOW, ABOVE), text)
 
 
 if __name__ == "__main__":
