@@ -23,19 +23,17 @@ pub link_end-requires-clause-j_lt_links : goal.link_end-requires-clause-j_lt_lin
 link_end-requires-clause-j_lt_links c = c.loop-i-test.true
 
 pub move_flow-requires : goal.move_flow-requires
-move_flow-requires c =
-    (
-      below (c.requires.ends_in.start c.loop-i.i c.loop-i-test.true) c.link_start.ensures c.requires.nodes_in_bounds.0 c.loop-i.invariant.2,
-      below (c.requires.ends_in.end c.loop-i.i c.loop-i-test.true) c.link_end.ensures c.requires.nodes_in_bounds.0 c.loop-i.invariant.2,
-    )
+move_flow-requires c = (
+  below (c.requires.ends_in.start c.loop-i.i c.loop-i-test.true) c.link_start.ensures c.requires.nodes_in_bounds.0 c.loop-i.invariant.2,
+  below (c.requires.ends_in.end c.loop-i.i c.loop-i-test.true) c.link_end.ensures c.requires.nodes_in_bounds.0 c.loop-i.invariant.2,
+)
 
 pub loop-i-preserved : goal.loop-i-preserved
-loop-i-preserved c =
-    (
-      omega arith,
-      flows_next _ _ _ _ _ _ _ _ _ c.link_start.ensures c.link_end.ensures c.loop-i.invariant.1 c.move_flow.ensures,
-      ap length c.move_flow.ensures ∙ shifted_long _ _ _ _ ∙ c.loop-i.invariant.2,
-    )
+loop-i-preserved c = (
+  omega arith,
+  flows_next _ _ _ _ _ _ _ _ _ c.link_start.ensures c.link_end.ensures c.loop-i.invariant.1 c.move_flow.ensures,
+  ap length c.move_flow.ensures ∙ shifted_long _ _ _ _ ∙ c.loop-i.invariant.2,
+)
 
 pub shape_of-excess : goal.shape_of-excess
 shape_of-excess c = c.loop-i.invariant.2
