@@ -58,11 +58,10 @@ run_trials-requires-clause-links_at c =
 pub run_trials-requires-clause-nodes_in_bounds : goal.run_trials-requires-clause-nodes_in_bounds
 run_trials-requires-clause-nodes_in_bounds c =
     let net = network_of _ _ c.requires.sheet_value in
-    let few = few_trials _ _ c.requires.sheet_value in
-    (
-            omega (arith, net.nodes, c.number_unknowns.auto.unknowns),
-            subst (λ (x : List ℕ). RowsRight c.args.l c.args.sheet.now x) (sym c.number_unknowns.ensures) (rows_right c.args.sheet.now c.args.l _ (omega (arith, net.nodes)) (omega (arith, net.nodes))),
-          )
+    let few = few_trials _ _ c.requires.sheet_value in (
+      omega (arith, net.nodes, c.number_unknowns.auto.unknowns),
+      subst (λ (x : List ℕ). RowsRight c.args.l c.args.sheet.now x) (sym c.number_unknowns.ensures) (rows_right c.args.sheet.now c.args.l _ (omega (arith, net.nodes)) (omega (arith, net.nodes))),
+    )
 
 pub run_trials-requires-clause-table_value : goal.run_trials-requires-clause-table_value
 run_trials-requires-clause-table_value c =

@@ -84,13 +84,13 @@ run-ran-requires-clause-room c =
     let net = network_of _ _ c.requires.sheet_value in
     let k = full_of in
     record {
-              heads = omega (arith, net.nodes, k.heads);
-              demands = omega (arith, net.nodes, k.demands);
-              drawn = omega (arith, net.nodes, k.drawn);
-              flows = omega (arith, net.links, k.flows);
-              statuses = omega (arith, net.links, k.statuses);
-              grounded = omega (arith, net.nodes);
-            }
+      heads = omega (arith, net.nodes, k.heads);
+      demands = omega (arith, net.nodes, k.demands);
+      drawn = omega (arith, net.nodes, k.drawn);
+      flows = omega (arith, net.links, k.flows);
+      statuses = omega (arith, net.links, k.statuses);
+      grounded = omega (arith, net.nodes);
+    }
 
 pub run-ran-requires-clause-trials_in_bounds : goal.run-ran-requires-clause-trials_in_bounds
 run-ran-requires-clause-trials_in_bounds c =
@@ -137,14 +137,13 @@ conclude-requires-clause-nodes_in_bounds_2 c =
     let first_of : State = state c.start_columns.new.heads c.start_columns.new.demands c.start_columns.new.drawn c.start_columns.new.flows c.start_columns.new.statuses (replicate 64 false) in
     let full_of : Full first_of = full first_of _ c.start_columns.ensures (start_full _ _) in
     let net = network_of _ _ c.requires.sheet_value in
-    let k = full_of in
-    (
-            omega (arith, net.nodes, c.run-ran.auto.h, k.heads),
-            omega (arith, net.nodes, c.run-ran.auto.d, k.demands),
-            omega (arith, net.nodes, c.run-ran.auto.f, k.drawn),
-            omega (arith, net.links, c.run-ran.auto.q, k.flows),
-            omega (arith, net.links, c.run-ran.auto.c, k.statuses),
-          )
+    let k = full_of in (
+      omega (arith, net.nodes, c.run-ran.auto.h, k.heads),
+      omega (arith, net.nodes, c.run-ran.auto.d, k.demands),
+      omega (arith, net.nodes, c.run-ran.auto.f, k.drawn),
+      omega (arith, net.links, c.run-ran.auto.q, k.flows),
+      omega (arith, net.links, c.run-ran.auto.c, k.statuses),
+    )
 
 pub shape_of-entries : goal.shape_of-entries
 shape_of-entries c = c.run-ran.auto.entries

@@ -19,11 +19,11 @@ add_links-requires-clause-given c = c.requires.given
 
 pub add_links-requires-clause-sized : goal.add_links-requires-clause-sized
 add_links-requires-clause-sized c = record {
-          matrix = c.requires.sized.matrix;
-          rhs = omega (arith, c.requires.sized.rhs, c.clear.auto.x);
-          g = c.requires.sized.g;
-          y = c.requires.sized.y;
-        }
+  matrix = c.requires.sized.matrix;
+  rhs = omega (arith, c.requires.sized.rhs, c.clear.auto.x);
+  g = c.requires.sized.g;
+  y = c.requires.sized.y;
+}
 
 pub add_links-requires-clause-table_value : goal.add_links-requires-clause-table_value
 add_links-requires-clause-table_value c = c.requires.table_value
