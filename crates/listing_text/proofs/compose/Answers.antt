@@ -17,9 +17,7 @@ tell-requires-clause-trials_bound c =
     (subst (λ (o : Solved). o.answer.trials ≤ 200) (sym c.solve-a.ensures) few, omega (arith, c.solve-a.auto), omega arith)
 
 pub tell-requires-clause-in_bounds : goal.tell-requires-clause-in_bounds
-tell-requires-clause-in_bounds c =
-    let few = solve_trials repair_of _ _ in
-    omega (arith, c.solve-a.auto)
+tell-requires-clause-in_bounds c = omega (arith, c.solve-a.auto)
 
 pub returns-clause-text : goal.returns-clause-text
 unfolding zeros blank
@@ -36,5 +34,4 @@ returns-clause-end c =
 pub returns-clause-few : goal.returns-clause-few
 unfolding zeros blank
 returns-clause-few c =
-    let all = listed _ _ c.solve-a.ensures c.tell.ensures.put in
     c.tell.ensures.upper_bound
