@@ -278,7 +278,7 @@ solve_one-requires-clause-sheet_value c =
     ends c.args.l c.args.trials c.width-wide.result c.args.r _
     (subst (λ (k : ℕ). Fits c.args.l c.args.trials k (c.args.r + 1) (lengths_of c.args.table.now lent_of)) (sym c.width-wide.ensures) c.requires.fits) net.nodes net.links
     (omega (arith, few_trials _ _ c.requires.sheet_value, c.requires.trials_value)) (omega (arith, c.width-wide.ensures, few_counts c.args.judging)) in
-    row_read c.args.sheet.now _ _ c.args.l c.args.table.now c.args.r _ c.requires.sheet_value c.shared_slice_known-2-1.given c.bad_demand-bad.ensures (c.copy_bytes.ensures ∙ whole_copy c.args.sheet.now c.args.copy.now c.requires.copy_len) c.put_row.ensures
+    row_read c.args.sheet.now _ _ c.args.l c.args.table.now c.args.r _ c.requires.sheet_value c.type_inv.table c.bad_demand-bad.ensures (c.copy_bytes.ensures ∙ whole_copy c.args.sheet.now c.args.copy.now c.requires.copy_len) c.put_row.ensures
 
 pub solve_one-requires-clause-judging_in_bounds : goal.solve_one-requires-clause-judging_in_bounds
 solve_one-requires-clause-judging_in_bounds c =
@@ -286,11 +286,10 @@ solve_one-requires-clause-judging_in_bounds c =
     let rooms : Ends c.args.l c.args.trials c.width-wide.result c.args.r (lengths_of c.args.table.now lent_of) = let net = network_of _ _ c.requires.sheet_value in
     ends c.args.l c.args.trials c.width-wide.result c.args.r _
     (subst (λ (k : ℕ). Fits c.args.l c.args.trials k (c.args.r + 1) (lengths_of c.args.table.now lent_of)) (sym c.width-wide.ensures) c.requires.fits) net.nodes net.links
-    (omega (arith, few_trials _ _ c.requires.sheet_value, c.requires.trials_value)) (omega (arith, c.width-wide.ensures, few_counts c.args.judging)) in
-    (
-          omega (arith, c.width-wide.ensures, part_long (c.args.r * c.width-wide.result) c.width-wide.result c.args.counts.now rooms.counts),
-          omega (arith, part_long (c.args.r * 3) 3 c.args.totals.now rooms.totals),
-        )
+    (omega (arith, few_trials _ _ c.requires.sheet_value, c.requires.trials_value)) (omega (arith, c.width-wide.ensures, few_counts c.args.judging)) in (
+      omega (arith, c.width-wide.ensures, part_long (c.args.r * c.width-wide.result) c.width-wide.result c.args.counts.now rooms.counts),
+      omega (arith, part_long (c.args.r * 3) 3 c.args.totals.now rooms.totals),
+    )
 
 pub solve_one-requires-clause-powers_value : goal.solve_one-requires-clause-powers_value
 solve_one-requires-clause-powers_value c =
