@@ -1,191 +1,172 @@
 -- `rows_out::tell_rows` is safe: every row's room lies within its buffer. Assumes nothing.
 use borrow.Author.Rules.{rules}
 use native.Mathlib.Omega.{arith}
-use Prim.Native.Nat.{ℕ, ◌+◌, ◌*◌, ◌-◌, ◌≤◌, ◌<◌}
-use mathlib.Core.List.{List}
-use lib.ListN.{length, take, drop, length-drop}
-use lib.Seq.{length-take-le}
-use Rattle.rowwise.proofs.Laws.{product_few}
+use Prim.Native.Nat.{◌*◌}
+use Rattle.rows_out.proofs.Rooms.{Starts, starts, rest}
 use Rattle.rows_out.proofs.tell_rows.Goals as goal
 
-starts : (nodes links trials rows wide r : ℕ) → nodes ≤ 64 → links ≤ 128 → trials ≤ 200 → rows ≤ 32 → wide ≤ 7 → r < rows → Starts nodes links trials wide r
-starts nodes links trials rows wide r hn hl ht hr hw h =
-    let few : r ≤ 31 = omega arith in
-    let b : 4 * trials ≤ 800 = omega arith in
-    record {
-      at-node = omega (arith, product_few 31 64 few hn);
-      at-link = omega (arith, product_few 31 128 few hl);
-      bytes = b;
-      at_byte = omega (arith, product_few 31 800 few b);
-      at_count = omega (arith, product_few 31 7 few hw);
-      at-total = omega arith;
-    }
-
-rest : {A : Type 0} (at room : ℕ) (x : List A) → at + room ≤ length x → room ≤ length (take (length x - at) (drop at x))
-rest at room x h = omega (arith, length-drop at x, length-take-le (length x - at) (drop at x) (omega (arith, length-drop at x)))
-
 pub overflow_mul-n : goal.overflow_mul-n
-overflow_mul-n c =
+overflow_mul-n g c =
     let starts_of : Starts c.args.s.nodes c.args.s.links c.args.s.trials c.width-wide.result c.loop-r.r = starts c.args.s.nodes c.args.s.links c.args.s.trials c.args.s.rows c.width-wide.result c.loop-r.r c.if-nodes-gt64.false c.if-links-gt128.false c.if-trials-gt200.false c.if-rows-gt32.false c.width-wide.ensures c.loop-r-test.true in
     omega (arith, starts_of.at-node)
 
 pub overflow_mul-k : goal.overflow_mul-k
-overflow_mul-k c =
+overflow_mul-k g c =
     let starts_of : Starts c.args.s.nodes c.args.s.links c.args.s.trials c.width-wide.result c.loop-r.r = starts c.args.s.nodes c.args.s.links c.args.s.trials c.args.s.rows c.width-wide.result c.loop-r.r c.if-nodes-gt64.false c.if-links-gt128.false c.if-trials-gt200.false c.if-rows-gt32.false c.width-wide.ensures c.loop-r-test.true in
     omega (arith, starts_of.at-link)
 
 pub overflow_mul-e : goal.overflow_mul-e
-overflow_mul-e c =
+overflow_mul-e g c =
     let starts_of : Starts c.args.s.nodes c.args.s.links c.args.s.trials c.width-wide.result c.loop-r.r = starts c.args.s.nodes c.args.s.links c.args.s.trials c.args.s.rows c.width-wide.result c.loop-r.r c.if-nodes-gt64.false c.if-links-gt128.false c.if-trials-gt200.false c.if-rows-gt32.false c.width-wide.ensures c.loop-r-test.true in
     omega (arith, starts_of.bytes)
 
 pub overflow_mul-e-in-loop-r : goal.overflow_mul-e-in-loop-r
-overflow_mul-e-in-loop-r c =
+overflow_mul-e-in-loop-r g c =
     let starts_of : Starts c.args.s.nodes c.args.s.links c.args.s.trials c.width-wide.result c.loop-r.r = starts c.args.s.nodes c.args.s.links c.args.s.trials c.args.s.rows c.width-wide.result c.loop-r.r c.if-nodes-gt64.false c.if-links-gt128.false c.if-trials-gt200.false c.if-rows-gt32.false c.width-wide.ensures c.loop-r-test.true in
     omega (arith, starts_of.at_byte)
 
 pub overflow_mul-c : goal.overflow_mul-c
-overflow_mul-c c =
+overflow_mul-c g c =
     let starts_of : Starts c.args.s.nodes c.args.s.links c.args.s.trials c.width-wide.result c.loop-r.r = starts c.args.s.nodes c.args.s.links c.args.s.trials c.args.s.rows c.width-wide.result c.loop-r.r c.if-nodes-gt64.false c.if-links-gt128.false c.if-trials-gt200.false c.if-rows-gt32.false c.width-wide.ensures c.loop-r-test.true in
     omega (arith, starts_of.at_count)
 
 pub overflow_mul-t : goal.overflow_mul-t
-overflow_mul-t c =
+overflow_mul-t g c =
     let starts_of : Starts c.args.s.nodes c.args.s.links c.args.s.trials c.width-wide.result c.loop-r.r = starts c.args.s.nodes c.args.s.links c.args.s.trials c.args.s.rows c.width-wide.result c.loop-r.r c.if-nodes-gt64.false c.if-links-gt128.false c.if-trials-gt200.false c.if-rows-gt32.false c.width-wide.ensures c.loop-r-test.true in
     omega (arith, starts_of.at-total)
 
 pub offset_bounds-heads-n : goal.offset_bounds-heads-n
-offset_bounds-heads-n c =
+offset_bounds-heads-n g c =
     let starts_of : Starts c.args.s.nodes c.args.s.links c.args.s.trials c.width-wide.result c.loop-r.r = starts c.args.s.nodes c.args.s.links c.args.s.trials c.args.s.rows c.width-wide.result c.loop-r.r c.if-nodes-gt64.false c.if-links-gt128.false c.if-trials-gt200.false c.if-rows-gt32.false c.width-wide.ensures c.loop-r-test.true in
     omega (arith, starts_of.at-node, c.requires.0)
 
 pub slice_bounds-tell_row-count : goal.slice_bounds-tell_row-count
-slice_bounds-tell_row-count c =
+slice_bounds-tell_row-count g c =
     let starts_of : Starts c.args.s.nodes c.args.s.links c.args.s.trials c.width-wide.result c.loop-r.r = starts c.args.s.nodes c.args.s.links c.args.s.trials c.args.s.rows c.width-wide.result c.loop-r.r c.if-nodes-gt64.false c.if-links-gt128.false c.if-trials-gt200.false c.if-rows-gt32.false c.width-wide.ensures c.loop-r-test.true in
     omega (arith, starts_of.at-node, c.requires.0)
 
 pub slice_bounds-tell_row-start : goal.slice_bounds-tell_row-start
-slice_bounds-tell_row-start c =
+slice_bounds-tell_row-start g c =
     let starts_of : Starts c.args.s.nodes c.args.s.links c.args.s.trials c.width-wide.result c.loop-r.r = starts c.args.s.nodes c.args.s.links c.args.s.trials c.args.s.rows c.width-wide.result c.loop-r.r c.if-nodes-gt64.false c.if-links-gt128.false c.if-trials-gt200.false c.if-rows-gt32.false c.width-wide.ensures c.loop-r-test.true in
     omega (arith, starts_of.at-node, c.requires.0)
 
 pub slice_bounds-tell_row-end : goal.slice_bounds-tell_row-end
-slice_bounds-tell_row-end c =
+slice_bounds-tell_row-end g c =
     let starts_of : Starts c.args.s.nodes c.args.s.links c.args.s.trials c.width-wide.result c.loop-r.r = starts c.args.s.nodes c.args.s.links c.args.s.trials c.args.s.rows c.width-wide.result c.loop-r.r c.if-nodes-gt64.false c.if-links-gt128.false c.if-trials-gt200.false c.if-rows-gt32.false c.width-wide.ensures c.loop-r-test.true in
     omega (arith, starts_of.at-node, c.requires.0)
 
 pub offset_bounds-demands-n : goal.offset_bounds-demands-n
-offset_bounds-demands-n c =
+offset_bounds-demands-n g c =
     let starts_of : Starts c.args.s.nodes c.args.s.links c.args.s.trials c.width-wide.result c.loop-r.r = starts c.args.s.nodes c.args.s.links c.args.s.trials c.args.s.rows c.width-wide.result c.loop-r.r c.if-nodes-gt64.false c.if-links-gt128.false c.if-trials-gt200.false c.if-rows-gt32.false c.width-wide.ensures c.loop-r-test.true in
     omega (arith, starts_of.at-node, c.requires.1)
 
 pub slice_bounds-tell_row-count-in-loop-r : goal.slice_bounds-tell_row-count-in-loop-r
-slice_bounds-tell_row-count-in-loop-r c =
+slice_bounds-tell_row-count-in-loop-r g c =
     let starts_of : Starts c.args.s.nodes c.args.s.links c.args.s.trials c.width-wide.result c.loop-r.r = starts c.args.s.nodes c.args.s.links c.args.s.trials c.args.s.rows c.width-wide.result c.loop-r.r c.if-nodes-gt64.false c.if-links-gt128.false c.if-trials-gt200.false c.if-rows-gt32.false c.width-wide.ensures c.loop-r-test.true in
     omega (arith, starts_of.at-node, c.requires.1)
 
 pub slice_bounds-tell_row-start-in-loop-r : goal.slice_bounds-tell_row-start-in-loop-r
-slice_bounds-tell_row-start-in-loop-r c =
+slice_bounds-tell_row-start-in-loop-r g c =
     let starts_of : Starts c.args.s.nodes c.args.s.links c.args.s.trials c.width-wide.result c.loop-r.r = starts c.args.s.nodes c.args.s.links c.args.s.trials c.args.s.rows c.width-wide.result c.loop-r.r c.if-nodes-gt64.false c.if-links-gt128.false c.if-trials-gt200.false c.if-rows-gt32.false c.width-wide.ensures c.loop-r-test.true in
     omega (arith, starts_of.at-node, c.requires.1)
 
 pub slice_bounds-tell_row-end-in-loop-r : goal.slice_bounds-tell_row-end-in-loop-r
-slice_bounds-tell_row-end-in-loop-r c =
+slice_bounds-tell_row-end-in-loop-r g c =
     let starts_of : Starts c.args.s.nodes c.args.s.links c.args.s.trials c.width-wide.result c.loop-r.r = starts c.args.s.nodes c.args.s.links c.args.s.trials c.args.s.rows c.width-wide.result c.loop-r.r c.if-nodes-gt64.false c.if-links-gt128.false c.if-trials-gt200.false c.if-rows-gt32.false c.width-wide.ensures c.loop-r-test.true in
     omega (arith, starts_of.at-node, c.requires.1)
 
 pub offset_bounds-flows-k : goal.offset_bounds-flows-k
-offset_bounds-flows-k c =
+offset_bounds-flows-k g c =
     let starts_of : Starts c.args.s.nodes c.args.s.links c.args.s.trials c.width-wide.result c.loop-r.r = starts c.args.s.nodes c.args.s.links c.args.s.trials c.args.s.rows c.width-wide.result c.loop-r.r c.if-nodes-gt64.false c.if-links-gt128.false c.if-trials-gt200.false c.if-rows-gt32.false c.width-wide.ensures c.loop-r-test.true in
     omega (arith, starts_of.at-link, c.requires.2)
 
 pub slice_bounds-tell_row-count-in-loop-r-2 : goal.slice_bounds-tell_row-count-in-loop-r-2
-slice_bounds-tell_row-count-in-loop-r-2 c =
+slice_bounds-tell_row-count-in-loop-r-2 g c =
     let starts_of : Starts c.args.s.nodes c.args.s.links c.args.s.trials c.width-wide.result c.loop-r.r = starts c.args.s.nodes c.args.s.links c.args.s.trials c.args.s.rows c.width-wide.result c.loop-r.r c.if-nodes-gt64.false c.if-links-gt128.false c.if-trials-gt200.false c.if-rows-gt32.false c.width-wide.ensures c.loop-r-test.true in
     omega (arith, starts_of.at-link, c.requires.2)
 
 pub slice_bounds-tell_row-start-in-loop-r-2 : goal.slice_bounds-tell_row-start-in-loop-r-2
-slice_bounds-tell_row-start-in-loop-r-2 c =
+slice_bounds-tell_row-start-in-loop-r-2 g c =
     let starts_of : Starts c.args.s.nodes c.args.s.links c.args.s.trials c.width-wide.result c.loop-r.r = starts c.args.s.nodes c.args.s.links c.args.s.trials c.args.s.rows c.width-wide.result c.loop-r.r c.if-nodes-gt64.false c.if-links-gt128.false c.if-trials-gt200.false c.if-rows-gt32.false c.width-wide.ensures c.loop-r-test.true in
     omega (arith, starts_of.at-link, c.requires.2)
 
 pub slice_bounds-tell_row-end-in-loop-r-2 : goal.slice_bounds-tell_row-end-in-loop-r-2
-slice_bounds-tell_row-end-in-loop-r-2 c =
+slice_bounds-tell_row-end-in-loop-r-2 g c =
     let starts_of : Starts c.args.s.nodes c.args.s.links c.args.s.trials c.width-wide.result c.loop-r.r = starts c.args.s.nodes c.args.s.links c.args.s.trials c.args.s.rows c.width-wide.result c.loop-r.r c.if-nodes-gt64.false c.if-links-gt128.false c.if-trials-gt200.false c.if-rows-gt32.false c.width-wide.ensures c.loop-r-test.true in
     omega (arith, starts_of.at-link, c.requires.2)
 
 pub slice_bounds-tell_row-count-in-loop-r-3 : goal.slice_bounds-tell_row-count-in-loop-r-3
-slice_bounds-tell_row-count-in-loop-r-3 c =
+slice_bounds-tell_row-count-in-loop-r-3 g c =
     let starts_of : Starts c.args.s.nodes c.args.s.links c.args.s.trials c.width-wide.result c.loop-r.r = starts c.args.s.nodes c.args.s.links c.args.s.trials c.args.s.rows c.width-wide.result c.loop-r.r c.if-nodes-gt64.false c.if-links-gt128.false c.if-trials-gt200.false c.if-rows-gt32.false c.width-wide.ensures c.loop-r-test.true in
     omega (arith, starts_of.at-link, c.requires.3)
 
 pub slice_bounds-tell_row-start-in-loop-r-3 : goal.slice_bounds-tell_row-start-in-loop-r-3
-slice_bounds-tell_row-start-in-loop-r-3 c =
+slice_bounds-tell_row-start-in-loop-r-3 g c =
     let starts_of : Starts c.args.s.nodes c.args.s.links c.args.s.trials c.width-wide.result c.loop-r.r = starts c.args.s.nodes c.args.s.links c.args.s.trials c.args.s.rows c.width-wide.result c.loop-r.r c.if-nodes-gt64.false c.if-links-gt128.false c.if-trials-gt200.false c.if-rows-gt32.false c.width-wide.ensures c.loop-r-test.true in
     omega (arith, starts_of.at-link, c.requires.3)
 
 pub slice_bounds-tell_row-end-in-loop-r-3 : goal.slice_bounds-tell_row-end-in-loop-r-3
-slice_bounds-tell_row-end-in-loop-r-3 c =
+slice_bounds-tell_row-end-in-loop-r-3 g c =
     let starts_of : Starts c.args.s.nodes c.args.s.links c.args.s.trials c.width-wide.result c.loop-r.r = starts c.args.s.nodes c.args.s.links c.args.s.trials c.args.s.rows c.width-wide.result c.loop-r.r c.if-nodes-gt64.false c.if-links-gt128.false c.if-trials-gt200.false c.if-rows-gt32.false c.width-wide.ensures c.loop-r-test.true in
     omega (arith, starts_of.at-link, c.requires.3)
 
 pub slice_bounds-tell_row-count-in-loop-r-4 : goal.slice_bounds-tell_row-count-in-loop-r-4
-slice_bounds-tell_row-count-in-loop-r-4 c =
+slice_bounds-tell_row-count-in-loop-r-4 g c =
     let starts_of : Starts c.args.s.nodes c.args.s.links c.args.s.trials c.width-wide.result c.loop-r.r = starts c.args.s.nodes c.args.s.links c.args.s.trials c.args.s.rows c.width-wide.result c.loop-r.r c.if-nodes-gt64.false c.if-links-gt128.false c.if-trials-gt200.false c.if-rows-gt32.false c.width-wide.ensures c.loop-r-test.true in
     omega (arith, starts_of.at_byte, c.requires.4)
 
 pub slice_bounds-tell_row-start-in-loop-r-4 : goal.slice_bounds-tell_row-start-in-loop-r-4
-slice_bounds-tell_row-start-in-loop-r-4 c =
+slice_bounds-tell_row-start-in-loop-r-4 g c =
     let starts_of : Starts c.args.s.nodes c.args.s.links c.args.s.trials c.width-wide.result c.loop-r.r = starts c.args.s.nodes c.args.s.links c.args.s.trials c.args.s.rows c.width-wide.result c.loop-r.r c.if-nodes-gt64.false c.if-links-gt128.false c.if-trials-gt200.false c.if-rows-gt32.false c.width-wide.ensures c.loop-r-test.true in
     omega (arith, starts_of.at_byte, c.requires.4)
 
 pub slice_bounds-tell_row-end-in-loop-r-4 : goal.slice_bounds-tell_row-end-in-loop-r-4
-slice_bounds-tell_row-end-in-loop-r-4 c =
+slice_bounds-tell_row-end-in-loop-r-4 g c =
     let starts_of : Starts c.args.s.nodes c.args.s.links c.args.s.trials c.width-wide.result c.loop-r.r = starts c.args.s.nodes c.args.s.links c.args.s.trials c.args.s.rows c.width-wide.result c.loop-r.r c.if-nodes-gt64.false c.if-links-gt128.false c.if-trials-gt200.false c.if-rows-gt32.false c.width-wide.ensures c.loop-r-test.true in
     omega (arith, starts_of.at_byte, c.requires.4)
 
 pub offset_bounds-counts-c : goal.offset_bounds-counts-c
-offset_bounds-counts-c c =
+offset_bounds-counts-c g c =
     let starts_of : Starts c.args.s.nodes c.args.s.links c.args.s.trials c.width-wide.result c.loop-r.r = starts c.args.s.nodes c.args.s.links c.args.s.trials c.args.s.rows c.width-wide.result c.loop-r.r c.if-nodes-gt64.false c.if-links-gt128.false c.if-trials-gt200.false c.if-rows-gt32.false c.width-wide.ensures c.loop-r-test.true in
     omega (arith, starts_of.at_count, c.requires.5)
 
 pub slice_bounds-tell_row-count-in-loop-r-5 : goal.slice_bounds-tell_row-count-in-loop-r-5
-slice_bounds-tell_row-count-in-loop-r-5 c =
+slice_bounds-tell_row-count-in-loop-r-5 g c =
     let starts_of : Starts c.args.s.nodes c.args.s.links c.args.s.trials c.width-wide.result c.loop-r.r = starts c.args.s.nodes c.args.s.links c.args.s.trials c.args.s.rows c.width-wide.result c.loop-r.r c.if-nodes-gt64.false c.if-links-gt128.false c.if-trials-gt200.false c.if-rows-gt32.false c.width-wide.ensures c.loop-r-test.true in
     omega (arith, starts_of.at_count, c.requires.5)
 
 pub slice_bounds-tell_row-start-in-loop-r-5 : goal.slice_bounds-tell_row-start-in-loop-r-5
-slice_bounds-tell_row-start-in-loop-r-5 c =
+slice_bounds-tell_row-start-in-loop-r-5 g c =
     let starts_of : Starts c.args.s.nodes c.args.s.links c.args.s.trials c.width-wide.result c.loop-r.r = starts c.args.s.nodes c.args.s.links c.args.s.trials c.args.s.rows c.width-wide.result c.loop-r.r c.if-nodes-gt64.false c.if-links-gt128.false c.if-trials-gt200.false c.if-rows-gt32.false c.width-wide.ensures c.loop-r-test.true in
     omega (arith, starts_of.at_count, c.requires.5)
 
 pub slice_bounds-tell_row-end-in-loop-r-5 : goal.slice_bounds-tell_row-end-in-loop-r-5
-slice_bounds-tell_row-end-in-loop-r-5 c =
+slice_bounds-tell_row-end-in-loop-r-5 g c =
     let starts_of : Starts c.args.s.nodes c.args.s.links c.args.s.trials c.width-wide.result c.loop-r.r = starts c.args.s.nodes c.args.s.links c.args.s.trials c.args.s.rows c.width-wide.result c.loop-r.r c.if-nodes-gt64.false c.if-links-gt128.false c.if-trials-gt200.false c.if-rows-gt32.false c.width-wide.ensures c.loop-r-test.true in
     omega (arith, starts_of.at_count, c.requires.5)
 
 pub offset_bounds-totals-t : goal.offset_bounds-totals-t
-offset_bounds-totals-t c =
+offset_bounds-totals-t g c =
     let starts_of : Starts c.args.s.nodes c.args.s.links c.args.s.trials c.width-wide.result c.loop-r.r = starts c.args.s.nodes c.args.s.links c.args.s.trials c.args.s.rows c.width-wide.result c.loop-r.r c.if-nodes-gt64.false c.if-links-gt128.false c.if-trials-gt200.false c.if-rows-gt32.false c.width-wide.ensures c.loop-r-test.true in
     omega (arith, starts_of.at-total, c.requires.6)
 
 pub slice_bounds-tell_row-count-in-loop-r-6 : goal.slice_bounds-tell_row-count-in-loop-r-6
-slice_bounds-tell_row-count-in-loop-r-6 c =
+slice_bounds-tell_row-count-in-loop-r-6 g c =
     let starts_of : Starts c.args.s.nodes c.args.s.links c.args.s.trials c.width-wide.result c.loop-r.r = starts c.args.s.nodes c.args.s.links c.args.s.trials c.args.s.rows c.width-wide.result c.loop-r.r c.if-nodes-gt64.false c.if-links-gt128.false c.if-trials-gt200.false c.if-rows-gt32.false c.width-wide.ensures c.loop-r-test.true in
     omega (arith, starts_of.at-total, c.requires.6)
 
 pub slice_bounds-tell_row-start-in-loop-r-6 : goal.slice_bounds-tell_row-start-in-loop-r-6
-slice_bounds-tell_row-start-in-loop-r-6 c =
+slice_bounds-tell_row-start-in-loop-r-6 g c =
     let starts_of : Starts c.args.s.nodes c.args.s.links c.args.s.trials c.width-wide.result c.loop-r.r = starts c.args.s.nodes c.args.s.links c.args.s.trials c.args.s.rows c.width-wide.result c.loop-r.r c.if-nodes-gt64.false c.if-links-gt128.false c.if-trials-gt200.false c.if-rows-gt32.false c.width-wide.ensures c.loop-r-test.true in
     omega (arith, starts_of.at-total, c.requires.6)
 
 pub slice_bounds-tell_row-end-in-loop-r-6 : goal.slice_bounds-tell_row-end-in-loop-r-6
-slice_bounds-tell_row-end-in-loop-r-6 c =
+slice_bounds-tell_row-end-in-loop-r-6 g c =
     let starts_of : Starts c.args.s.nodes c.args.s.links c.args.s.trials c.width-wide.result c.loop-r.r = starts c.args.s.nodes c.args.s.links c.args.s.trials c.args.s.rows c.width-wide.result c.loop-r.r c.if-nodes-gt64.false c.if-links-gt128.false c.if-trials-gt200.false c.if-rows-gt32.false c.width-wide.ensures c.loop-r-test.true in
     omega (arith, starts_of.at-total, c.requires.6)
 
 pub tell_row-requires : goal.tell_row-requires
-tell_row-requires c =
+tell_row-requires g c =
     let starts_of : Starts c.args.s.nodes c.args.s.links c.args.s.trials c.width-wide.result c.loop-r.r = starts c.args.s.nodes c.args.s.links c.args.s.trials c.args.s.rows c.width-wide.result c.loop-r.r c.if-nodes-gt64.false c.if-links-gt128.false c.if-trials-gt200.false c.if-rows-gt32.false c.width-wide.ensures c.loop-r-test.true in
     let k = starts_of in (
       rest (c.loop-r.r * c.args.s.nodes) 64 c.args.heads.now (omega (arith, k.at-node, c.requires.0)),
@@ -196,12 +177,3 @@ tell_row-requires c =
       rest (c.loop-r.r * c.width-wide.result) 7 c.args.counts.now (omega (arith, k.at_count, c.requires.5)),
       rest (3 * c.loop-r.r) 3 c.args.totals.now (omega (arith, k.at-total, c.requires.6)),
     )
-
-pub overflow_step-r : goal.overflow_step-r
-overflow_step-r c = omega (arith, c.loop-r-test.true, c.if-rows-gt32.false)
-
-pub loop-r-smaller : goal.loop-r-smaller
-loop-r-smaller c = omega (arith, c.loop-r-test.true, c.if-rows-gt32.false)
-
-pub loop-r-preserved : goal.loop-r-preserved
-loop-r-preserved c = omega (arith, c.loop-r-test.true, c.if-rows-gt32.false)
