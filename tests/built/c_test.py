@@ -1,5 +1,4 @@
-"""The examples in C over include/desk.h and libdesk.a, built and run: natively on x86-64, elsewhere with the kit's
-compiler and emulator, since the library is for x86-64."""
+"""The examples in C over include/desk.h and libdesk.a, built and run."""
 import os
 import struct
 import subprocess
