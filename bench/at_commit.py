@@ -72,6 +72,14 @@ def keeping(room):
     return tool, kept
 
 
+def compiler():
+    """What compiles without a proof, which kits up to rattle-kit-5 had, for sources of their time."""
+    found = os.path.join(programs.kit(), "on", platform.machine(), "bin", "rattle-cases")
+    if not os.path.exists(found):
+        sys.exit("bench/at_commit.py: the kit on the path has no rattle-cases, which compiles without a proof")
+    return found
+
+
 def module(folder, room):
     """The module of the program over the folder's crates, as text."""
     tool, kept = keeping(room)
@@ -81,7 +89,7 @@ def module(folder, room):
         out.write(PROGRAM)
     with open(os.path.join(folder, "crates.txt")) as file:
         listed = crates.listed(file.read())
-    words = [os.path.join(programs.own(), "bin", "rattle-cases"), "--toolchain", tool, main, "--crate-name", "at_commit"]
+    words = [compiler(), "--toolchain", tool, main, "--crate-name", "at_commit"]
     words += ["--lib", "std=" + os.path.join(programs.kit(), "libs", "std", "src", "lib.rt")]
     for name in crates.below(listed, "desk") + ["desk"]:
         words += ["--lib", "%s=%s" % (name, os.path.join(folder, "crates", name, "src", "lib.rt"))]

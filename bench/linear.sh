@@ -16,8 +16,8 @@ case $processor in
     ;;
 esac
 if [ "$(uname -m)" = x86_64 ]; then
-    rt staticlib linear_bench >/dev/null
-    library=target/staticlib/liblinear_bench.a
+    (cd crates/linear_bench && rt lib >/dev/null)
+    library=crates/linear_bench/out/liblinear_bench.a
 else
     ../shared/tools/native_lib linear_bench >/dev/null
     library=target/native/liblinear_bench.a

@@ -37,8 +37,8 @@ def call(*words):
 
 def library(name):
     if platform.machine() == "x86_64":
-        call("rt", "staticlib", name)
-        return "target/staticlib/lib%s.a" % name, "the proved library as it ships"
+        subprocess.run(["rt", "lib"], cwd=os.path.join(ROOT, "crates", name), stdout=subprocess.PIPE, check=True)
+        return "crates/%s/out/lib%s.a" % (name, name), "the proved library as it ships"
     call("../shared/tools/native_lib", name)
     return "target/native/lib%s.a" % name, "native_lib: the proved library's LLVM module compiled for this processor"
 

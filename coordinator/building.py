@@ -1,5 +1,5 @@
-"""Has a proved program built where it is not there yet, or where it is older than its sources: by `rt check`, one desk
-at a time, with a word about how far it is."""
+"""Has a proved program built where it is not there yet, or where it is older than its sources: by `rt run` in the crate's
+folder, one desk at a time, with a word about how far it is."""
 import contextlib
 import fcntl
 import os
@@ -16,7 +16,9 @@ from .streams import complain, note
 
 # parts of a crate that its program is made of
 PARTS = ("src", "specs", "proofs")
-PROVED = re.compile(r"^rt: \S+ proved \(", re.M)
+PROVED = re.compile(r"^logic=proved ", re.M)
+# rt says so once the program is built, and then runs it
+RUNS = re.compile(r"^rt: running out/", re.M)
 # seconds between two words about how far it is, where no terminal shows one line anew
 PATIENCE = 30
 # what rt says last is enough to see what is wrong
@@ -54,12 +56,12 @@ def sources(name):
 
 
 def is_there(name):
-    return os.path.exists(programs.built(name))
+    return os.path.exists(programs.path(name))
 
 
 def is_old(name, path=None):
     """Whether a source is younger than the program, or than what else was made of this crate at a path."""
-    built = os.stat(path or programs.built(name)).st_mtime
+    built = os.stat(path or programs.path(name)).st_mtime
     return any(os.stat(source).st_mtime > built for source in sources(name))
 
 
@@ -72,7 +74,7 @@ def time_words(seconds):
 
 
 class Progress:
-    """How far `rt check` is."""
+    """How far `rt run` is."""
 
     def __init__(self, total):
         self.total, self.proved, self.began, self.told = total, 0, time.monotonic(), 0.0
@@ -93,11 +95,11 @@ class Progress:
 
 
 def listen(process, progress):
-    """All that a process prints until it ends, told on the way."""
+    """All that a process says on standard error until it ends, told on the way."""
     said = b""
     while True:
-        if select.select([process.stdout], [], [], 1.0)[0]:
-            more = os.read(process.stdout.fileno(), 65536)
+        if select.select([process.stderr], [], [], 1.0)[0]:
+            more = os.read(process.stderr.fileno(), 65536)
             if not more:
                 return said.decode("utf-8", "replace")
             said += more
@@ -106,13 +108,13 @@ def listen(process, progress):
 
 
 @contextlib.contextmanager
-def started(words, lock):
-    """A process with its own group, which ends with it; the lock lives as long as the group."""
+def started(words, folder, lock):
+    """A process with its own group, which ends with it; the lock lives as long as the group. What it prints is dropped."""
     # no interrupt comes between its start and the `try` that ends it
     mask = signal.pthread_sigmask(signal.SIG_BLOCK, [signal.SIGINT])
     try:
-        with subprocess.Popen(words, cwd=programs.ROOT, stdin=subprocess.DEVNULL, stdout=subprocess.PIPE,
-                              stderr=subprocess.STDOUT, start_new_session=True, pass_fds=[lock]) as process:
+        with subprocess.Popen(words, cwd=folder, stdin=subprocess.DEVNULL, stdout=subprocess.DEVNULL,
+                              stderr=subprocess.PIPE, start_new_session=True, pass_fds=[lock]) as process:
             try:
                 signal.pthread_sigmask(signal.SIG_SETMASK, mask)
                 yield process
@@ -124,14 +126,14 @@ def started(words, lock):
         signal.pthread_sigmask(signal.SIG_SETMASK, mask)
 
 
-def check(name, lock):
-    """`rt check` on a program: its exit status and what it said."""
+def proved_and_built(name, lock):
+    """`rt run` on a program, with nothing on its standard input: whether it was built, and what rt said."""
     progress = Progress(len(parts_of(name)))
-    with started(["rt", "check", name], lock) as process:
+    with started(["rt", "run"], programs.folder(name), lock) as process:
         said = listen(process, progress)
-        status = process.wait()
+        process.wait()
     progress.tell(last=True)
-    return status, said
+    return bool(RUNS.search(said)) and is_there(name), said
 
 
 @contextlib.contextmanager
@@ -159,13 +161,13 @@ def build(name, why):
             if is_ready(name):
                 return
             complain("the program `%s` %s: proving and building it (from nothing about ten minutes)" % (name, why))
-            status, said = check(name, lock)
-            if status or not is_there(name):
-                raise NotToBeHad("rt check %s did not build the program:\n%s" % (
+            built, said = proved_and_built(name, lock)
+            if not built:
+                raise NotToBeHad("rt run did not build the program in crates/%s:\n%s" % (
                     name, "\n".join(said.strip().splitlines()[-LAST_LINES:])))
             # rt leaves a program alone whose sources are what they were; and a source may be of tomorrow
             now = max([time.time()] + [os.stat(source).st_mtime for source in sources(name)])
-            os.utime(programs.built(name), (now, now))
+            os.utime(programs.path(name), (now, now))
     except OSError as error:
         raise CannotBuild("the program `%s` %s and cannot be built: %s" % (name, why, error)) from error
 
@@ -180,4 +182,3 @@ def have(name):
         except CannotBuild as error:
             # it was proved when it was built
             complain("%s; it is asked as it is" % error)
-    programs.remember_kit()

@@ -7,7 +7,8 @@ def listed(text):
     for line in text.splitlines():
         name, colon, below = line.split("#")[0].partition(":")
         if colon:
-            found[name.strip()] = below
+            # behind the name may stand what `rt` is to make of it
+            found[name.split()[0]] = below
     return found
 
 

@@ -72,7 +72,7 @@ class Installing(unittest.TestCase):
                 building.have("verdict")
             self.assertIn("not installed beside the desk", str(gone.exception))
             self.assertEqual(os.listdir(folder), ["programs"])
-            self.assertEqual(programs.memory(), os.path.join(folder, "kit"))
+            self.assertEqual(programs.path("verdict"), os.path.join(folder, "programs", "verdict"))
 
 
 if __name__ == "__main__":

@@ -212,14 +212,17 @@ class Outputs(Folder):
 
 FAKE_RT = """#!/bin/sh
 # stands in for the kit's command
-echo "$@" >>runs
+echo "$@" >>../../runs
 %s
 """
-BUILDS = """echo "rt: numbers proved (1 s)"
+BUILDS = """echo "logic=proved functions=1 sum=0" >&2
 sleep 0.4
-echo "rt: verdict proved (2 s)"
-mkdir -p target/bin
-[ -e target/bin/verdict ] || echo program >target/bin/verdict"""
+echo "logic=proved functions=2 target=x86_64-unknown-linux-gnu sum=0" >&2
+mkdir -p out
+[ -e out/verdict ] || echo program >out/verdict
+echo "rt: running out/verdict" >&2
+echo "what the program prints"
+exit 1"""
 
 
 class Builds(Folder):
@@ -271,7 +274,7 @@ class Builds(Folder):
         self.assertIsNone(failed)
         self.assertIn("desk: the program `verdict` is not built yet: proving and building it", err)
         self.assertRegex(err, r"\ndesk: 2 of 2 crates proved, \d+ s\n$")
-        self.assertEqual(self.runs(), ["check verdict"])
+        self.assertEqual(self.runs(), ["run"])
         self.assertEqual(self.have(), ("", None))
 
     def test_a_word_now_and_then(self):
@@ -284,12 +287,12 @@ class Builds(Folder):
         os.utime(self.path("crates", "other", "src", "main.rt"), (time.time() + 60, time.time() + 60))
         self.assertEqual(self.have(), ("", None))
         later = time.time() - 5
-        os.utime(self.path("target", "bin", "verdict"), (later - 5, later - 5))
+        os.utime(self.path("crates", "verdict", "out", "verdict"), (later - 5, later - 5))
         os.utime(self.path("crates", "numbers", "src", "main.rt"), (later, later))
         self.assertIn("desk: the program `verdict` is older than its sources: proving and building it", self.have()[0])
         self.assertEqual(len(self.runs()), 2)
         self.assertEqual(self.have(), ("", None))
-        os.utime(self.path("target", "bin", "verdict"), (later - 5, later - 5))
+        os.utime(self.path("crates", "verdict", "out", "verdict"), (later - 5, later - 5))
         err, failed = self.without_rt()
         self.assertEqual((err.count("\n"), failed), (1, None))
         self.assertIn("is older than its sources, and the Rattle kit's command `rt`", err)
@@ -304,7 +307,7 @@ class Builds(Folder):
 
     def test_an_old_program_in_a_tree_that_cannot_be_written(self):
         self.have()
-        os.utime(self.path("target", "bin", "verdict"), (1, 1))
+        os.utime(self.path("crates", "verdict", "out", "verdict"), (1, 1))
         with mock.patch("coordinator.building.alone", side_effect=PermissionError(13, "Permission denied")):
             err, failed = self.have()
         self.assertIsNone(failed)
@@ -312,18 +315,18 @@ class Builds(Folder):
 
     def test_an_old_program_whose_sources_are_not_proved_is_not_asked(self):
         self.have()
-        os.utime(self.path("target", "bin", "verdict"), (1, 1))
-        self.rt("echo verdict NOT PROVED; exit 1")
+        os.utime(self.path("crates", "verdict", "out", "verdict"), (1, 1))
+        self.rt("echo logic=not-proved >&2; exit 1")
         self.assertIn("did not build the program", self.have()[1])
 
     def test_two_at_the_same_time_build_once(self):
         two = [self.start(), self.start()]
         said = [one.communicate()[1] for one in two]
-        self.assertEqual(([one.returncode for one in two], self.runs()), ([0, 0], ["check verdict"]))
+        self.assertEqual(([one.returncode for one in two], self.runs()), ([0, 0], ["run"]))
         self.assertEqual(["another desk is building; waiting for it" in words for words in sorted(said, key=len)], [True, False])
 
     def test_an_interrupted_build(self):
-        self.rt("echo $$ >pid; sleep 60")
+        self.rt("echo $$ >../../pid; sleep 60")
         one = self.start()
         while not os.path.exists(self.path("pid")) or not self.bytes_of("pid"):
             time.sleep(0.02)
@@ -343,10 +346,10 @@ class Builds(Folder):
                          "is not on the path (README.md says what is needed)")
 
     def test_a_build_that_fails(self):
-        self.rt("seq 100; echo verdict NOT PROVED; exit 1")
+        self.rt("(seq 100; echo logic=not-proved) >&2; exit 1")
         failed = self.have()[1]
-        self.assertTrue(failed.startswith("rt check verdict did not build the program:\n82\n"), failed)
-        self.assertTrue(failed.endswith("\nverdict NOT PROVED"))
+        self.assertTrue(failed.startswith("rt run did not build the program in crates/verdict:\n82\n"), failed)
+        self.assertTrue(failed.endswith("\nlogic=not-proved"))
 
     def test_a_tree_that_cannot_be_written(self):
         self.path("target", data=b"in the way")
@@ -355,17 +358,11 @@ class Builds(Folder):
 
     def test_a_built_desk_needs_no_kit_on_the_path(self):
         self.have()
-        os.makedirs(self.path("target", "programs"))
-        self.path("target", "programs", "verdict", data=b"linked")
-        with mock.patch("coordinator.programs.ROOT", self.folder), mock.patch.dict(os.environ, {"PATH": "/none"}), \
-                mock.patch.dict(os.environ):
-            os.environ.pop("RATTLE_HOME", None)
-            self.assertEqual(programs.kit(), os.path.dirname(self.path("kit")))
-            os.unlink(self.path("target", "kit"))
-            with mock.patch("platform.machine", lambda: "x86_64"):
-                self.assertEqual(programs.command("verdict"), [self.path("target", "programs", "verdict")])
-            with mock.patch("platform.machine", lambda: "aarch64"), self.assertRaises(FileNotFoundError):
-                programs.command("verdict")
+        with mock.patch("coordinator.programs.ROOT", self.folder), mock.patch.dict(os.environ, {"PATH": "/none"}):
+            building.have("verdict")
+            self.assertEqual(programs.command("verdict"), [self.path("crates", "verdict", "out", "verdict")])
+            with self.assertRaises(FileNotFoundError):
+                programs.kit()
 
 
 if __name__ == "__main__":

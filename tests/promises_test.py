@@ -18,7 +18,7 @@ def read(*parts):
 
 def libraries():
     lines = [line for line in read("crates.txt").splitlines() if ":" in line and not line.startswith("#")]
-    names = [line.split(":")[0] for line in lines]
+    names = [line.split(":")[0].split()[0] for line in lines]
     return [name for name in names if os.path.exists(os.path.join(ROOT, "crates", name, "src", "lib.rt"))]
 
 

@@ -1,33 +1,29 @@
 #!/usr/bin/env python3
-"""The must-fail edits, tried quickly: for working, and no verdict (docs/DECISIONS.md, "Working quickly").
+"""The must-fail edits, tried by `rt must-fail`, and what is to be mended of them (docs/DECISIONS.md, "Working quickly").
 
   edits.py [NAME...]     the edits of these crates; with no name, of every crate that has some
 
-An edit is checked over a copy of the incremental folder that the unedited crate left, target/inc/NAME, which
-`rt dev NAME` fills too. Its line has the crate, the edit, the verdict, the seconds and the prover's first error.
-UNFIT is a refusal that says only that the proof no longer fits: it names a need that the edited code has not.
-BAD EDIT is one that `rt must-fail` calls so. A crate is passed over while it, what it stands on and its edits are
-as they were when all of them were last refused; remove target/edits to try it again. RT_JOBS is rt's.
+`rt must-fail` begins with what `rt check` kept and tries again only what changed. Here each edit has a line with the
+crate, the edit, the verdict and rt's reason. UNFIT is a refusal that says only that the proof no longer fits: a proof
+file names what the edited code has not. BAD EDIT is one that cannot be applied, compiled or read, NOT TRIED one whose
+check was cut off. Where the unedited crate itself is not proved, its edits say nothing.
 
-Exit status: 0 every edit was refused, and fits; 1 one was not, or a crate is not proved; 2 bad use, or what a
-crate stands on is not proved.
+Exit status: 0 every edit was refused, and fits; 1 one was not, or a crate is not proved; 2 bad use.
 """
 import glob
-import hashlib
 import os
 import re
-import shutil
+import subprocess
 import sys
-import tempfile
-import time
-from concurrent.futures import ThreadPoolExecutor
 
 import product  # noqa: F401
-from checks import Repository, read
-from coordinator import programs
+from checks import read
+from coordinator import crates, programs
 
-REFUSED, UNFIT, PROVED, BAD = "refused", "UNFIT", "NOT REFUSED", "BAD EDIT"
-PARTS = ("src", "specs", "proofs")
+REFUSED, UNFIT, PROVED, BAD, UNTRIED = "refused", "UNFIT", "NOT REFUSED", "BAD EDIT", "NOT TRIED"
+TRIED = re.compile(r"rt: must-fail (\w+)/([\w.-]+)\.edit: (refused|NOT REFUSED|BAD EDIT|NOT TRIED)\b[:,]? ?(.*)")
+UNPROVED = re.compile(r"rt: (\w+): the check that its must-fail edits begin with did not end well")
+ONLY_THE_PROOF = "(only because a proof file names"
 WIDTH = 160
 
 
@@ -35,184 +31,59 @@ class Stop(Exception):
     """Nothing can be tried; the text says why."""
 
 
-class BadEdit(Exception):
-    """The edit does not apply to the crate."""
-
-
-def place(folder, name):
-    """The file that a 'file:' line names."""
-    path = os.path.join(folder, name)
-    if ".." in name.split("/") or name.split("/")[0] not in PARTS or not os.path.isfile(path):
-        raise BadEdit("a 'file:' line names no file of the crate under src/, specs/ or proofs/")
-    return path
-
-
-def replace(path, old, new):
-    with open(path, encoding="utf-8", newline="") as file:
-        text = file.read()
-    if not old or text.count(old) != 1:
-        raise BadEdit("an 'old:' text is not in %s once" % os.path.basename(path))
-    with open(path, "w", encoding="utf-8", newline="") as file:
-        file.write(text.replace(old, new))
-
-
-def apply(folder, edit):
-    """Edits the crate in this folder as `rt must-fail` does: a 'file:' line holds for the pairs after it."""
-    if any(os.path.islink(path) for path in glob.glob(os.path.join(folder, "**"), recursive=True)):
-        raise BadEdit("the crate holds a symbolic link")
-    name = old = ""
-    pairs = 0
-    for line in edit.split("\n"):
-        word, _, rest = line.partition(":")
-        if line.startswith("file: "):
-            name = rest[1:]
-        elif line.startswith("old: "):
-            old = rest[1:]
-        elif word == "new":
-            replace(place(folder, name), old, rest[1:] if rest.startswith(" ") else rest)
-            old, pairs = "", pairs + 1
-    if not pairs:
-        raise BadEdit("it has no 'old:' and 'new:' pair")
-
-
-def first_error(said, folder):
-    found = re.search(r"^[^ \n]*: error.*", said, re.M) or re.search(r"^note: [^ \n]*:\d+:\d+:.*", said, re.M)
-    return found.group().replace(folder + os.sep, "") if found else ""
-
-
-def judged(status, said, folder):
-    """The verdict and the line that shows why."""
-    if status == 0:
-        return PROVED, "the crate is still proved with this edit"
-    if status != 1 or not re.search(r"^logic=not-proved", said, re.M):
-        return BAD, "it did not reach the prover: " + (said.splitlines() or [""])[0].replace(folder + os.sep, "")
-    error = first_error(said, folder)
-    return UNFIT if "has no `Need-" in error else REFUSED, error
-
-
-def copied(source, folder):
-    for part in PARTS:
-        if os.path.isdir(os.path.join(source, part)):
-            shutil.copytree(os.path.join(source, part), os.path.join(folder, part), symlinks=True)
-    return folder
-
-
-class Crate:
-    """One crate's edits. Its files are copied first, so that they may be worked on meanwhile."""
-
-    def __init__(self, repository, name):
-        self.repository, self.name = repository, name
-        paths = sorted(glob.glob(os.path.join(repository.folder(name), "must-fail", "*.edit")))
-        self.edits = {os.path.basename(path)[:-len(".edit")]: read(path) for path in paths}
-        self.record, self.kept = repository.target("edits", name), repository.target("inc", name)
-        self.before = self.source = self.filled = self.outcomes = None
-
-    def content(self):
-        parts = [self.repository.stamp(self.name)] + [label + "\n" + edit for label, edit in self.edits.items()]
-        return hashlib.sha256("\0".join(parts).encode()).hexdigest()
-
-    def is_unchanged(self):
-        return os.path.exists(self.record) and read(self.record) == self.content()
-
-    def start(self, room):
-        self.before = self.content()
-        self.source = copied(self.repository.folder(self.name), os.path.join(room, self.name))
-
-    def fill(self):
-        """Whether the unedited crate is proved, the seconds that it took, and the first error."""
-        began = time.time()
-        status, said = self.repository.check(self.name, self.source, self.kept)
-        return status == 0, time.time() - began, first_error(said, self.source) or said.strip().split("\n")[-1]
-
-    def attempt(self, edit):
-        """The verdict on one edit, the seconds and why; None where the unedited crate is not proved."""
-        if not self.filled.result()[0]:
-            return None
-        began = time.time()
-        with tempfile.TemporaryDirectory() as room:
-            folder, kept = copied(self.source, os.path.join(room, "crate")), os.path.join(room, "kept")
-            try:
-                apply(folder, edit)
-                shutil.copytree(self.kept, kept)
-                verdict, why = judged(*self.repository.check(self.name, folder, kept), folder)
-            except BadEdit as error:
-                verdict, why = BAD, str(error)
-        return verdict, time.time() - began, why
-
-    def remember(self):
-        os.makedirs(os.path.dirname(self.record), exist_ok=True)
-        with open(self.record, "w", encoding="utf-8") as file:
-            file.write(self.before)
-
-
-def chosen(repository, names):
-    """The crates to try, all of them over proved ones, and how many are unchanged."""
-    crates = [Crate(repository, name) for name in dict.fromkeys(names or repository.crates) if name in repository.crates]
-    crates = [crate for crate in crates if crate.edits]
-    lost = set(names) - {crate.name for crate in crates}
+def with_edits(root, names):
+    """Those of these crates that have edits, of all where none is named."""
+    listed = crates.listed(read(os.path.join(root, "crates.txt")))
+    having = [name for name in listed if glob.glob(os.path.join(root, "crates", name, "must-fail", "*.edit"))]
+    lost = sorted(set(names) - set(having))
     if lost:
-        raise Stop("no crate of crates.txt with must-fail edits: " + " ".join(sorted(lost)))
-    for crate in crates:
-        unproved = repository.unproved_below(crate.name)
-        if unproved:
-            raise Stop("%s stands on %s, not proved as it is: `rt check %s` first" % (crate.name, unproved[0], crate.name))
-    changed = [crate for crate in crates if not crate.is_unchanged()]
-    return changed, len(crates) - len(changed)
+        raise Stop("no crate of crates.txt with must-fail edits: " + " ".join(lost))
+    return [name for name in having if not names or name in names]
 
 
-def submit(pool, crates, room):
-    """Starts all; the folder of the next crate is filled beside the edits of one, and before its own."""
-    for crate in crates:
-        crate.start(room)
-    for crate, following in zip([None] + crates, crates + [None]):
-        if following:
-            following.filled = pool.submit(following.fill)
-        if crate:
-            crate.outcomes = [pool.submit(crate.attempt, edit) for edit in crate.edits.values()]
+def judged(line):
+    """Of a line that rt prints of an edit: crate, edit, verdict and why; None for any other."""
+    found = TRIED.match(line)
+    if not found:
+        return None
+    crate, edit, verdict, why = found.groups()
+    if verdict == REFUSED:
+        verdict = UNFIT if ONLY_THE_PROOF in why else REFUSED
+        why = re.sub(r"^as it must be:? ?", "", why)
+    return crate, edit, verdict, why
 
 
-def report(crate):
-    """Prints what came of one crate, as it comes, and gives the verdicts."""
-    proved, seconds, why = crate.filled.result()
-    if not proved:
-        print("%s is not proved, so no edit was tried: %s" % (crate.name, why[:WIDTH]), flush=True)
-        return ["not tried"]
-    print("%s: the unedited crate took %.1f s" % (crate.name, seconds), flush=True)
-    verdicts = []
-    for label, outcome in zip(crate.edits, crate.outcomes):
-        verdict, seconds, why = outcome.result()
-        print("%s %s: %s, %.1f s: %s" % (crate.name, label, verdict, seconds, why[:WIDTH]), flush=True)
-        verdicts.append(verdict)
-    if set(verdicts) == {REFUSED}:
-        crate.remember()
-    return verdicts
+def said(root, names):
+    """The lines of `rt must-fail`, as they come."""
+    with subprocess.Popen(["rt", "must-fail", *names], cwd=root, stdin=subprocess.DEVNULL, stdout=subprocess.PIPE,
+                          stderr=subprocess.STDOUT, universal_newlines=True, errors="replace") as process:
+        yield from process.stdout
 
 
-def run(root, names, jobs):
+def run(root, names):
     """Tries the edits; gives the exit status."""
-    crates, unchanged = chosen(Repository(root), names)
-    verdicts = []
-    pool = ThreadPoolExecutor(jobs)
-    with tempfile.TemporaryDirectory() as room:
-        try:
-            submit(pool, crates, room)
-            for crate in crates:
-                verdicts += report(crate)
-        finally:
-            pool.shutdown(cancel_futures=True)
-    wrong = [verdict for verdict in verdicts if verdict != REFUSED]
-    print("%d refused, %d not as they must be; crates unchanged: %d" % (len(verdicts) - len(wrong), len(wrong), unchanged))
-    return 1 if wrong else 0
+    chosen, verdicts, unproved = with_edits(root, names), {}, []
+    for line in said(root, chosen):
+        told, lacks = judged(line.rstrip("\n")), UNPROVED.match(line)
+        if told:
+            crate, edit, verdict, why = told
+            verdicts[crate, edit] = verdict
+            print("%s %s: %s: %s" % (crate, edit, verdict, why[:WIDTH]), flush=True)
+        elif lacks:
+            unproved.append(lacks.group(1))
+            print("%s is not proved, so its edits say nothing: `rt check` in crates/%s first" % (2 * lacks.groups()), flush=True)
+    untold = [path for name in chosen for path in glob.glob(os.path.join(root, "crates", name, "must-fail", "*.edit"))
+              if (name, os.path.basename(path)[:-len(".edit")]) not in verdicts]
+    wrong = [verdict for verdict in verdicts.values() if verdict != REFUSED]
+    print("%d refused, %d not as they must be, %d of which nothing was said" % (len(verdicts) - len(wrong), len(wrong), len(untold)))
+    return 1 if wrong or untold or unproved else 0
 
 
 def main(words):
-    jobs = os.environ.get("RT_JOBS") or str(min(os.cpu_count() or 1, 4))
     try:
         if any(word.startswith("-") for word in words):
             raise Stop(__doc__.strip())
-        if not jobs.isdigit() or not int(jobs):
-            raise Stop("RT_JOBS is a number, 1 or more")
-        return run(programs.ROOT, words, int(jobs))
+        return run(programs.ROOT, words)
     except (Stop, OSError) as error:
         print("edits: %s" % error, file=sys.stderr)
         return 2

@@ -3,8 +3,8 @@
 
   install.py PREFIX     below this folder: bin/desk, lib/ndurabeew, lib/libdesk.a, include/desk.h, share/doc/ndurabeew
 
-What is not built yet is proved and built first. What is installed needs python3 and, on a processor that is not x86-64,
-the kit's emulator, whose folder is remembered; nothing of the repository.
+What is not built yet is proved and built first. What is installed needs x86-64 Linux and python3; nothing of the
+repository or the kit.
 """
 import glob
 import os
@@ -45,12 +45,10 @@ def put(data, path, mode):
 def install(prefix):
     for name in PROGRAMS:
         building.have(name)
-        programs.link(name)
     library.have()
     for source, name, mode in pairs():
         with open(source, "rb") as file:
             put(file.read(), os.path.join(prefix, name), mode)
-    put((programs.kit() + "\n").encode(), os.path.join(prefix, "lib", "ndurabeew", "kit"), 0o644)
 
 
 def main(words):

@@ -16,8 +16,8 @@ from coordinator import crates
 ROOT = os.path.dirname(os.path.dirname(os.path.abspath(__file__)))
 PARTS = {"specs": "specs", "proofs": "proofs", "src": "code", "must-fail": "edits"}
 ORDER = ("specs", "promises", "proofs", "code", "edits", "rest")
-# what of a crate rt's stamp is made of
-CHECKED = ("src", "specs", "proofs", "stdin", "stdout", "args", "data")
+# what of a crate `rt ci` reads, but for the edits
+CHECKED = ("src", "specs", "proofs", "stdin", "stdout", "args", "status", "data")
 # a definition starts where a name at the margin is declared; its equations stand below it
 START = re.compile(r"(?:[a-z]+ )*?(pub )?(?:(?:record|data) (\S+)|(\S+) :(?: |$))")
 

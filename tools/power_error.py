@@ -74,7 +74,7 @@ FOOT_IN_METRES = Fraction(3048, 10000)
 
 
 def loss(q, r):
-    """The friction loss of pipes/specs/Pipe.antt `frictionOf`, for a gradient that is not below RQ_TOL."""
+    """The friction loss of pipes/specs/Pipe.antt `friction_of`, for a gradient that is not below RQ_TOL."""
     gradient = exact.mul(exact.mul(H_EXPONENT, r), power(q, A, B))
     return exact.div(exact.mul(gradient, q), H_EXPONENT)
 

@@ -1,7 +1,5 @@
-"""The examples in C over include/desk.h and libdesk.a, built and run: natively on x86-64, elsewhere with the kit's
-compiler and emulator, since the library is for x86-64."""
+"""The examples in C over include/desk.h and libdesk.a, built and run."""
 import os
-import platform
 import struct
 import subprocess
 import sys
@@ -31,24 +29,9 @@ def said(*words, given=None):
     return subprocess.run(words, input=given, stdout=subprocess.PIPE, check=True, universal_newlines=True).stdout.strip()
 
 
-def build_here(program, include=INCLUDE, library=LIBRARY, source=SOURCE):
+def build(program, include=INCLUDE, library=LIBRARY, source=SOURCE):
     said("gcc", "-O2", "-Wall", "-Wextra", "-Werror", "-pthread", "-I", include, "-o", program, source, library)
     return [program]
-
-
-def build_by_kit(program, include=INCLUDE, library=LIBRARY, source=SOURCE):
-    tools = programs.toolchain()
-    headers = [said("gcc", "-print-file-name=include"), "/usr/include/" + said("gcc", "-dumpmachine"), "/usr/include"]
-    places = [word for place in headers for word in ("-isystem", place)]
-    said(os.path.join(tools, "bin", "clang"), "--target=x86_64-unknown-linux-gnu", "-O2", "-fPIC", *places, "-I", include,
-         "-c", source, "-o", program + ".o")
-    link = os.path.join(os.path.dirname(tools), "bin", "rattle-link")
-    said(link, "--target", "x86_64-unknown-linux-gnu", "--toolchain", tools, "-o", program, program + ".o", library)
-    return programs.by_loader(program)
-
-
-def build_for_here():
-    return build_here if platform.machine() == "x86_64" else build_by_kit
 
 
 def sheet(name):
@@ -69,7 +52,6 @@ class FromC(unittest.TestCase):
         archive.have()
         folder = tempfile.TemporaryDirectory()
         cls.addClassCleanup(folder.cleanup)
-        build = build_for_here()
         cls.solve, cls.steps = (build(os.path.join(folder.name, name), source=os.path.join(SOURCES, name + ".c")) for name in ("solve", "steps"))
 
     def test_short_buffers_are_refused_and_later_entries_stay(self):
@@ -136,7 +118,7 @@ class EveningFromC(unittest.TestCase):
         archive.have()
         folder = tempfile.TemporaryDirectory()
         cls.addClassCleanup(folder.cleanup)
-        cls.evening = build_for_here()(os.path.join(folder.name, "evening"), source=os.path.join(SOURCES, "evening.c"))
+        cls.evening = build(os.path.join(folder.name, "evening"), source=os.path.join(SOURCES, "evening.c"))
 
     def turn(self, data, nodes, turn):
         """The example's line on a turn."""
@@ -182,7 +164,7 @@ class TextFromC(unittest.TestCase):
         archive.have()
         cls.folder = tempfile.TemporaryDirectory()
         cls.addClassCleanup(cls.folder.cleanup)
-        cls.text = build_for_here()(os.path.join(cls.folder.name, "text"), source=os.path.join(SOURCES, "text.c"))
+        cls.text = build(os.path.join(cls.folder.name, "text"), source=os.path.join(SOURCES, "text.c"))
 
     def said_of(self, text):
         path = os.path.join(self.folder.name, "given.inp")

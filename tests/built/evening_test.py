@@ -143,7 +143,7 @@ class Lent(unittest.TestCase):
         folder = tempfile.TemporaryDirectory()
         cls.addClassCleanup(folder.cleanup)
         source = os.path.join(ROOT, "tests", "built", "evening.c")
-        cls.command = c_test.build_for_here()(os.path.join(folder.name, "evening"), source=source)
+        cls.command = c_test.build(os.path.join(folder.name, "evening"), source=source)
 
     def check(self, asked):
         done = subprocess.run(self.command, input=evenings.asked(asked), stdout=subprocess.PIPE, check=False)

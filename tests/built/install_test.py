@@ -1,5 +1,4 @@
-"""What `make install` puts below a prefix, used without the repository and without `rt` on the path. On a processor that is
-not x86-64 the kit's emulator runs the programs; its folder is the one thing that an installation remembers of the kit."""
+"""What `make install` puts below a prefix, used without the repository and without `rt` on the path."""
 import json
 import os
 import shutil
@@ -92,7 +91,7 @@ class Installed(unittest.TestCase):
     def test_library_and_header(self):
         """The example in C, against what was installed alone."""
         program = os.path.join(self.elsewhere, "solve")
-        build = c_test.build_for_here()
+        build = c_test.build
         command = build(program, os.path.join(self.prefix, "include"), os.path.join(self.prefix, "lib", "libdesk.a"))
         said = c_test.said(*command, os.path.join(self.elsewhere, "looped.sheet"))
         self.assertIn("verdict 0, place 0: it may be sold", said)

@@ -47,7 +47,7 @@ class Stack(unittest.TestCase):
         library.have()
         folder = tempfile.TemporaryDirectory()
         cls.addClassCleanup(folder.cleanup)
-        build = c_test.build_for_here()
+        build = c_test.build
         command = build(os.path.join(folder.name, "stack"), source=SOURCE)
         cls.lines = [line.split() for line in c_test.said(*command, *named(folder.name), *texts(folder.name)).splitlines()]
 
