@@ -6,4 +6,4 @@ use borrow.Author.Rules.{rules}
 use Rattle.decimal_vectors.proofs.answer.Goals as goal
 
 pub show-requires : goal.show-requires
-show-requires c = record { digits = omega arith; places = omega arith; whole = λ e. absurd (false≢true (sym e)) }
+show-requires g c = record { digits = omega arith; places = omega arith; whole = λ e. absurd (false≢true (sym e)) }

@@ -1,12 +1,8 @@
--- `linear_vectors::read_part` reads into the part alone, and ends. Assumes nothing.
-use native.Mathlib.Omega.{arith}
-use Prim.Native.Nat.{◌-◌, ◌≤◌}
+-- `linear_vectors::read_part` reads into the part alone. Assumes nothing.
+use Prim.Native.Nat.{◌≤◌}
 use mathlib.Core.Path.{◌≡◌}
-use lib.ListN.{length, length-set}
+use lib.ListN.{length}
 use Rattle.linear_vectors.proofs.read_part.Given as goal
 
 abbrev pub invariant-loop-i : goal.invariant-loop-i
-invariant-loop-i l = (l.from ≤ l.i) × (l.i ≤ l.to) × (length l.a ≡ length l.initial.a)
-
-abbrev pub decreases-loop-i : goal.decreases-loop-i
-decreases-loop-i l = l.to - l.i
+invariant-loop-i g l = (l.from ≤ l.i) × (l.i ≤ l.to) × (length l.a ≡ length l.initial.a)

@@ -1,8 +1,6 @@
 -- `linear_vectors::write_matrix` goes through the columns. Assumes nothing.
-use native.Mathlib.Omega.{arith}
-use Prim.Native.Nat.{◌-◌, ◌≤◌}
+use Prim.Native.Nat.{◌≤◌}
 use Rattle.linear_vectors.proofs.write_matrix.Given as goal
 
--- invariant-loop a n c₀ t4 c = c ≤ n
-
--- decreases-loop a n c₀ t4 c = n - c
+abbrev pub invariant-loop-c : goal.invariant-loop-c
+invariant-loop-c g l = l.c ≤ l.n

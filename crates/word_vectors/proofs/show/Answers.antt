@@ -6,4 +6,4 @@ use Rattle.decimal_words.proofs.Parts.{in_range}
 use Rattle.word_vectors.proofs.show.Goals as goal
 
 pub worth-requires : goal.worth-requires
-worth-requires c = subst Ranged (sym c.spelled_number-w.ensures) (in_range c.args.word.now)
+worth-requires g c = subst Ranged (sym c.spelled_number-w.ensures) (in_range c.args.word.now)

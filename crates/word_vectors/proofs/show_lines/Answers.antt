@@ -9,26 +9,26 @@ use Rattle.lines.proofs.Lines.{First, line_first}
 use Rattle.word_vectors.proofs.show_lines.Goals as goal
 
 pub slice_bounds-show_words-count : goal.slice_bounds-show_words-count
-slice_bounds-show_words-count c =
-    let at_line : First c.args.text.now c.loop-l.at c.loop-l.invariant c.line_at-l.result = subst (First c.args.text.now c.loop-l.at c.loop-l.invariant) (sym c.line_at-l.ensures) (line_first _ _ c.loop-l.invariant) in
+slice_bounds-show_words-count g c =
+    let at_line : First c.args.text.now c.loop-writer.at c.loop-writer.invariant c.line_at-l.result = subst (First c.args.text.now c.loop-writer.at c.loop-writer.invariant) (sym c.line_at-l.ensures) (line_first _ _ c.loop-writer.invariant) in
     omega (arith, at_line)
 
 pub slice_bounds-show_words-start : goal.slice_bounds-show_words-start
-slice_bounds-show_words-start c =
-    let at_line : First c.args.text.now c.loop-l.at c.loop-l.invariant c.line_at-l.result = subst (First c.args.text.now c.loop-l.at c.loop-l.invariant) (sym c.line_at-l.ensures) (line_first _ _ c.loop-l.invariant) in
+slice_bounds-show_words-start g c =
+    let at_line : First c.args.text.now c.loop-writer.at c.loop-writer.invariant c.line_at-l.result = subst (First c.args.text.now c.loop-writer.at c.loop-writer.invariant) (sym c.line_at-l.ensures) (line_first _ _ c.loop-writer.invariant) in
     omega (arith, at_line)
 
 pub slice_bounds-show_words-end : goal.slice_bounds-show_words-end
-slice_bounds-show_words-end c =
-    let at_line : First c.args.text.now c.loop-l.at c.loop-l.invariant c.line_at-l.result = subst (First c.args.text.now c.loop-l.at c.loop-l.invariant) (sym c.line_at-l.ensures) (line_first _ _ c.loop-l.invariant) in
+slice_bounds-show_words-end g c =
+    let at_line : First c.args.text.now c.loop-writer.at c.loop-writer.invariant c.line_at-l.result = subst (First c.args.text.now c.loop-writer.at c.loop-writer.invariant) (sym c.line_at-l.ensures) (line_first _ _ c.loop-writer.invariant) in
     omega (arith, at_line)
 
-pub loop-l-smaller : goal.loop-l-smaller
-loop-l-smaller c =
-    let at_line : First c.args.text.now c.loop-l.at c.loop-l.invariant c.line_at-l.result = subst (First c.args.text.now c.loop-l.at c.loop-l.invariant) (sym c.line_at-l.ensures) (line_first _ _ c.loop-l.invariant) in
+pub loop-writer-smaller : goal.loop-writer-smaller
+loop-writer-smaller g c =
+    let at_line : First c.args.text.now c.loop-writer.at c.loop-writer.invariant c.line_at-l.result = subst (First c.args.text.now c.loop-writer.at c.loop-writer.invariant) (sym c.line_at-l.ensures) (line_first _ _ c.loop-writer.invariant) in
     omega (arith, at_line.within, at_line.further c.if-l.false)
 
-pub loop-l-preserved : goal.loop-l-preserved
-loop-l-preserved c =
-    let at_line : First c.args.text.now c.loop-l.at c.loop-l.invariant c.line_at-l.result = subst (First c.args.text.now c.loop-l.at c.loop-l.invariant) (sym c.line_at-l.ensures) (line_first _ _ c.loop-l.invariant) in
+pub loop-writer-preserved : goal.loop-writer-preserved
+loop-writer-preserved g c =
+    let at_line : First c.args.text.now c.loop-writer.at c.loop-writer.invariant c.line_at-l.result = subst (First c.args.text.now c.loop-writer.at c.loop-writer.invariant) (sym c.line_at-l.ensures) (line_first _ _ c.loop-writer.invariant) in
     at_line.within

@@ -1,13 +1,10 @@
 -- `word_vectors::show_lines` ends: each line begins behind the one before it. Assumes nothing.
-use mathlib.Core.Path.{sym, subst}
-use mathlib.Core.Bool.{false}
 use Prim.Native.Nat.{◌-◌, ◌≤◌}
-use borrow.Author.Rules.{rules}
-use native.Mathlib.Omega.{arith}
 use lib.ListN.{length}
-use Rattle.lines.proofs.Lines.{First, line_first}
 use Rattle.word_vectors.proofs.show_lines.Given as goal
 
--- invariant-loop text at₀ t5 at = at ≤ length text
+abbrev pub invariant-loop-writer : goal.invariant-loop-writer
+invariant-loop-writer g l = l.at ≤ length l.text
 
--- decreases-loop text at₀ t5 at = length text - at
+abbrev pub decreases-loop-writer : goal.decreases-loop-writer
+decreases-loop-writer g l = length l.text - l.at
