@@ -1,6 +1,5 @@
 """What the kit's prover is called with, over the libraries that `rt ci` or `rt lib` left proved in crates/NAME/out/rlib."""
 import os
-import subprocess
 
 import product  # noqa: F401
 from coordinator import crates, programs
