@@ -50,11 +50,11 @@ fn read_once<R: Read>(reader: &mut R, buffer: &mut [u8]) -> io::Result<usize>
 
 // The same from an index on.
 fn read_on<R: Read>(reader: &mut R, buffer: &mut [u8], from: usize) -> io::Result<usize>
-    requires { from < length buffer.old }
+    requires { from ≤ length buffer.old }
     ensures front { take from buffer.new ≡ take from buffer.old }
     ensures count { IfOk result (λ n. from + n ≤ length buffer.new) }
     ensures bytes { IfOk result (λ n. Consumes (R.remaining reader.old) (R.remaining reader.new) (take n (drop from buffer.new))) }
-    ensures end { IfOk result (λ n. n ≡ 0 → IsAtEnd (R.remaining reader.new)) }
+    ensures end { IfOk result (λ n. n ≡ 0 → from < length buffer.new → IsAtEnd (R.remaining reader.new)) }
     ensures err { OnErr result (Keeps (R.remaining reader.old) (R.remaining reader.new)) }
 {
     read_once(reader, &mut buffer[from..])

@@ -21,7 +21,7 @@ returns-then-more-eq0 g c =
     record {
       count = prefix_len_of_le _ _ (omega (arith, read.count));
       bytes = consumes_none _ _ _ _ _ _ _ none read.front c.loop-done.invariant.2 read.bytes;
-      end = λ _. read.end none;
+      end = λ _. read.end none (omega (arith, c.loop-done-test.true, c.in_ok-more.ensures.count));
     }
 
 pub returns : goal.returns
