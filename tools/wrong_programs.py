@@ -19,7 +19,8 @@ from coordinator import crates, programs
 PARTS = ("src", "specs", "proofs")
 LEAST = 2
 # read_within under base_bounds; writes
-EXCEPT = {("sheet", "read"), ("standard", "put"), ("text_out", "show"), ("rows_out", "show_rows")}
+EXCEPT = {("sheet", "read"), ("standard", "put"), ("standard", "put_decimal"), ("standard", "put_hex"), ("text_out", "show"),
+          ("rows_out", "show_rows")}
 
 
 def edits_of(root, crate):

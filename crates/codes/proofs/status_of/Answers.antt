@@ -35,4 +35,8 @@ returns-in-6 c = rw c.in-6.is
 
 pub returns-in_default : goal.returns-in_default
 unfolding status_of
-returns-in_default c = sym (past statuses c.args.code _ (not_at (not_at (not_at (not_at (not_at (not_at (not_at zero-le c.in_default.in_default-own.rest.0.0.0.0.0.0.1) c.in_default.in_default-own.rest.0.0.0.0.0.1) c.in_default.in_default-own.rest.0.0.0.0.1) c.in_default.in_default-own.rest.0.0.0.1) c.in_default.in_default-own.rest.0.0.1) c.in_default.in_default-own.rest.0.1) c.in_default.in_default-own.rest.1))
+returns-in_default c =
+    let rest = c.in_default.in_default-own.rest in
+    let fewer = rest.0.0 in
+    let fewest = fewer.0.0 in
+    sym (past statuses c.args.code _ (not_at (not_at (not_at (not_at (not_at (not_at (not_at zero-le fewest.0.0.1) fewest.0.1) fewest.1) fewer.0.1) fewer.1) rest.0.1) rest.1))

@@ -19,7 +19,10 @@ pub update_link-u-requires-clause-nodes_in_bounds : goal.update_link-u-requires-
 update_link-u-requires-clause-nodes_in_bounds c = (c.requires.nodes_in_bounds.0, c.loop-j-test.true)
 
 pub update_link-u-requires-clause-j_in_bounds : goal.update_link-u-requires-clause-j_in_bounds
-update_link-u-requires-clause-j_in_bounds c = (omega (arith, c.requires.nodes_in_bounds.1.0, c.loop-j-test.true), (omega (arith, c.requires.nodes_in_bounds.1.1.0, c.loop-j-test.true), (omega (arith, c.requires.nodes_in_bounds.1.1.1.0, c.loop-j.invariant.q_long, c.loop-j-test.true), omega (arith, c.requires.nodes_in_bounds.1.1.1.1, c.loop-j.invariant.c_long, c.loop-j-test.true))))
+update_link-u-requires-clause-j_in_bounds c =
+    let bounds = c.requires.nodes_in_bounds in
+    let columns = bounds.1.1 in
+    (omega (arith, bounds.1.0, c.loop-j-test.true), (omega (arith, columns.0, c.loop-j-test.true), (omega (arith, columns.1.0, c.loop-j.invariant.q_long, c.loop-j-test.true), omega (arith, columns.1.1, c.loop-j.invariant.c_long, c.loop-j-test.true))))
 
 pub loop-j-preserved : goal.loop-j-preserved
 loop-j-preserved c =
