@@ -6,6 +6,7 @@ ghost use Rattle.decimals.specs.Decimal.{InRange};
 
 use std::io;
 use std::io::{Read, Write};
+use std::process::ExitCode;
 
 fn show<W: Write>(writer: &mut W, d: u64, negative: bool, size: u64) -> io::Result<()>
     requires { InRange d negative size }
@@ -47,7 +48,7 @@ fn step<R: Read, W: Write>(reader: &mut R, writer: &mut W) -> io::Result<bool> {
     Ok(true)
 }
 
-fn main(rt: HostRuntime) -> io::Result<()> {
+fn run(rt: &HostRuntime) -> io::Result<()> {
     let mut reader = rt.stdin();
     let mut writer = rt.stdout();
     for _ in 0..1000000u32 {
@@ -56,4 +57,9 @@ fn main(rt: HostRuntime) -> io::Result<()> {
         }
     }
     Ok(())
+}
+
+fn main(rt: HostRuntime) -> ExitCode {
+    let done = run(&rt);
+    standard::ended(&rt, done)
 }

@@ -3,13 +3,14 @@
 #![tactic(auto)]
 
 use std::io;
+use std::process::ExitCode;
 
 // Room for a text, and one byte more, which shows that it is too long.
 fn room() -> [u8; 2097153] {
     [0u8; 2097153]
 }
 
-fn main(rt: HostRuntime) -> io::Result<()> {
+fn run(rt: &HostRuntime) -> io::Result<()> {
     let mut reader = rt.stdin();
     let mut writer = rt.stdout();
     let mut buffer = room();
@@ -19,4 +20,9 @@ fn main(rt: HostRuntime) -> io::Result<()> {
     }
     text_out::show(&mut writer, &buffer[..n])?;
     Ok(())
+}
+
+fn main(rt: HostRuntime) -> ExitCode {
+    let done = run(&rt);
+    standard::ended(&rt, done)
 }

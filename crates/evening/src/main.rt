@@ -10,6 +10,7 @@ ghost use Rattle.std.specs.Prelude.{◌≤◌, length};
 use rowwise::Judging;
 use std::io;
 use std::io::{Read, Write};
+use std::process::ExitCode;
 
 // The number of the first four bytes.
 fn number_in(head: &[u8]) -> u64
@@ -31,7 +32,7 @@ fn step<R: Read, W: Write>(reader: &mut R, writer: &mut W) -> io::Result<bool> {
     rows_out::show_rows(reader, writer, &buffer[..size], Judging::Off, rows as usize)
 }
 
-fn main(rt: HostRuntime) -> io::Result<()> {
+fn run(rt: &HostRuntime) -> io::Result<()> {
     let mut reader = rt.stdin();
     let mut writer = rt.stdout();
     for _ in 0..u64::MAX {
@@ -40,4 +41,9 @@ fn main(rt: HostRuntime) -> io::Result<()> {
         }
     }
     Ok(())
+}
+
+fn main(rt: HostRuntime) -> ExitCode {
+    let done = run(&rt);
+    standard::ended(&rt, done)
 }

@@ -11,6 +11,7 @@ ghost use Rattle.std.specs.Prelude.{◌≤◌, length};
 use rowwise::Judging;
 use std::io;
 use std::io::{Read, Write};
+use std::process::ExitCode;
 use tolerance::Limits;
 
 // Three f64s, one behind the other.
@@ -51,7 +52,7 @@ fn step<R: Read, W: Write>(reader: &mut R, writer: &mut W) -> io::Result<bool> {
     )
 }
 
-fn main(rt: HostRuntime) -> io::Result<()> {
+fn run(rt: &HostRuntime) -> io::Result<()> {
     let mut reader = rt.stdin();
     let mut writer = rt.stdout();
     for _ in 0..u64::MAX {
@@ -60,4 +61,9 @@ fn main(rt: HostRuntime) -> io::Result<()> {
         }
     }
     Ok(())
+}
+
+fn main(rt: HostRuntime) -> ExitCode {
+    let done = run(&rt);
+    standard::ended(&rt, done)
 }

@@ -5,6 +5,7 @@
 
 use std::io;
 use std::io::{Read, Write};
+use std::process::ExitCode;
 
 fn hex<W: Write>(writer: &mut W, x: f64) -> io::Result<()> {
     standard::put(writer, b" ")?;
@@ -70,7 +71,7 @@ fn step<R: Read, W: Write>(reader: &mut R, writer: &mut W) -> io::Result<bool> {
     Ok(true)
 }
 
-fn main(rt: HostRuntime) -> io::Result<()> {
+fn run(rt: &HostRuntime) -> io::Result<()> {
     let mut reader = rt.stdin();
     let mut writer = rt.stdout();
     for _ in 0..100000u32 {
@@ -79,4 +80,9 @@ fn main(rt: HostRuntime) -> io::Result<()> {
         }
     }
     Ok(())
+}
+
+fn main(rt: HostRuntime) -> ExitCode {
+    let done = run(&rt);
+    standard::ended(&rt, done)
 }

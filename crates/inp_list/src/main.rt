@@ -5,6 +5,7 @@
 
 use std::io;
 use std::io::{Read, Write};
+use std::process::ExitCode;
 
 // One text, or false where there is none.
 fn step<R: Read, W: Write>(reader: &mut R, writer: &mut W) -> io::Result<bool> {
@@ -22,7 +23,7 @@ fn step<R: Read, W: Write>(reader: &mut R, writer: &mut W) -> io::Result<bool> {
     Ok(true)
 }
 
-fn main(rt: HostRuntime) -> io::Result<()> {
+fn run(rt: &HostRuntime) -> io::Result<()> {
     let mut reader = rt.stdin();
     let mut writer = rt.stdout();
     for _ in 0..u64::MAX {
@@ -31,4 +32,9 @@ fn main(rt: HostRuntime) -> io::Result<()> {
         }
     }
     Ok(())
+}
+
+fn main(rt: HostRuntime) -> ExitCode {
+    let done = run(&rt);
+    standard::ended(&rt, done)
 }

@@ -8,6 +8,7 @@ ghost use Rattle.std.specs.Prelude.{◌≤◌, length};
 use answers::Answer;
 use std::io;
 use std::io::{Read, Write};
+use std::process::ExitCode;
 
 // No result has these values.
 const FLOAT: f64 = 1234567.890625;
@@ -180,7 +181,7 @@ fn step<R: Read, W: Write>(reader: &mut R, writer: &mut W) -> io::Result<bool> {
     run_within(writer, &buffer[..size], l)
 }
 
-fn main(rt: HostRuntime) -> io::Result<()> {
+fn run(rt: &HostRuntime) -> io::Result<()> {
     let mut reader = rt.stdin();
     let mut writer = rt.stdout();
     for _ in 0..100000u32 {
@@ -189,4 +190,9 @@ fn main(rt: HostRuntime) -> io::Result<()> {
         }
     }
     Ok(())
+}
+
+fn main(rt: HostRuntime) -> ExitCode {
+    let done = run(&rt);
+    standard::ended(&rt, done)
 }

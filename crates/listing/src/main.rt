@@ -8,6 +8,7 @@ ghost use Rattle.stream.specs.Stream.{count_of};
 
 use std::io;
 use std::io::{Read, Write};
+use std::process::ExitCode;
 use stream::Progress;
 
 fn show<W: Write>(writer: &mut W, sheet: &[u8]) -> io::Result<()> {
@@ -39,7 +40,7 @@ fn read_long<R: Read, W: Write>(reader: &mut R, writer: &mut W, buffer: &mut [u8
     show_long(writer, p)
 }
 
-fn main(rt: HostRuntime) -> io::Result<()> {
+fn run(rt: &HostRuntime) -> io::Result<()> {
     let mut reader = rt.stdin();
     let mut writer = rt.stdout();
     let mut buffer = [0u8; 65536];
@@ -49,4 +50,9 @@ fn main(rt: HostRuntime) -> io::Result<()> {
     } else {
         read_long(&mut reader, &mut writer, &mut buffer)
     }
+}
+
+fn main(rt: HostRuntime) -> ExitCode {
+    let done = run(&rt);
+    standard::ended(&rt, done)
 }

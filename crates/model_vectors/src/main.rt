@@ -11,6 +11,7 @@ use records::Link;
 use status::Change;
 use std::io;
 use std::io::{Read, Write};
+use std::process::ExitCode;
 
 // What a record holds: codes and flags, and the floats in order.
 #[derive(Clone, Copy)]
@@ -157,7 +158,7 @@ fn step<R: Read, W: Write>(reader: &mut R, writer: &mut W, table: &[u64; 1153]) 
     Ok(true)
 }
 
-fn main(rt: HostRuntime) -> io::Result<()> {
+fn run(rt: &HostRuntime) -> io::Result<()> {
     let mut reader = rt.stdin();
     let mut writer = rt.stdout();
     let table = power::power_table();
@@ -167,4 +168,9 @@ fn main(rt: HostRuntime) -> io::Result<()> {
         }
     }
     Ok(())
+}
+
+fn main(rt: HostRuntime) -> ExitCode {
+    let done = run(&rt);
+    standard::ended(&rt, done)
 }

@@ -7,6 +7,7 @@ ghost use Rattle.power.specs.Tables.{power_table, power_table871};
 
 use std::io;
 use std::io::{Read, Write};
+use std::process::ExitCode;
 
 fn show<W: Write>(writer: &mut W, x: f64) -> io::Result<()> {
     standard::put_hex(writer, patterns::pattern(x))
@@ -39,7 +40,7 @@ fn step<R: Read, W: Write>(
     Ok(true)
 }
 
-fn main(rt: HostRuntime) -> io::Result<()> {
+fn run(rt: &HostRuntime) -> io::Result<()> {
     let mut reader = rt.stdin();
     let mut writer = rt.stdout();
     let table = power::power_table();
@@ -50,4 +51,9 @@ fn main(rt: HostRuntime) -> io::Result<()> {
         }
     }
     Ok(())
+}
+
+fn main(rt: HostRuntime) -> ExitCode {
+    let done = run(&rt);
+    standard::ended(&rt, done)
 }

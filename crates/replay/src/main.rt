@@ -5,6 +5,7 @@
 
 use std::io;
 use std::io::{Read, Write};
+use std::process::ExitCode;
 
 fn show<W: Write>(writer: &mut W, sheet: &[u8]) -> io::Result<()> {
     let mut out = [0u8; 65536];
@@ -25,7 +26,7 @@ fn step<R: Read, W: Write>(reader: &mut R, writer: &mut W) -> io::Result<bool> {
     Ok(true)
 }
 
-fn main(rt: HostRuntime) -> io::Result<()> {
+fn run(rt: &HostRuntime) -> io::Result<()> {
     let mut reader = rt.stdin();
     let mut writer = rt.stdout();
     for _ in 0..u64::MAX {
@@ -34,4 +35,9 @@ fn main(rt: HostRuntime) -> io::Result<()> {
         }
     }
     Ok(())
+}
+
+fn main(rt: HostRuntime) -> ExitCode {
+    let done = run(&rt);
+    standard::ended(&rt, done)
 }

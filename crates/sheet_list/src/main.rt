@@ -4,6 +4,7 @@
 
 use std::io;
 use std::io::{Read, Write};
+use std::process::ExitCode;
 
 fn line<W: Write>(writer: &mut W, mark: &[u8], x: usize, y: usize) -> io::Result<()> {
     standard::put(writer, mark)?;
@@ -38,7 +39,7 @@ fn step<R: Read, W: Write>(reader: &mut R, writer: &mut W) -> io::Result<bool> {
     Ok(true)
 }
 
-fn main(rt: HostRuntime) -> io::Result<()> {
+fn run(rt: &HostRuntime) -> io::Result<()> {
     let mut reader = rt.stdin();
     let mut writer = rt.stdout();
     for _ in 0..100000u32 {
@@ -47,4 +48,9 @@ fn main(rt: HostRuntime) -> io::Result<()> {
         }
     }
     Ok(())
+}
+
+fn main(rt: HostRuntime) -> ExitCode {
+    let done = run(&rt);
+    standard::ended(&rt, done)
 }

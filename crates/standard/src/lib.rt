@@ -1,6 +1,6 @@
 // Standard input and output for the programs, generic over what is read and what is written. A read that fails is an
-// error and never the end of the input, and so is a write that fails: a `main` that passes the error on says it in one
-// line on standard error and ends with status 1, and writes nothing behind it.
+// error and never the end of the input, and so is a write that fails. Nothing is written behind it, and `ended` says it in
+// one line on standard error and gives status 1.
 #![tactic(auto)]
 
 ghost use Rattle.std.specs.Prelude.{◌+◌, ◌<◌, ◌≤◌, ◌≡◌, length, take, drop, decimal, IfOk, OnOk, OnErr, IfSome};
@@ -9,7 +9,8 @@ ghost use Rattle.std.specs.Io.KnownBytes.{Appends, Consumes, IsAtEnd, Keeps};
 ghost use Rattle.standard.specs.Standard.{item_of};
 
 use std::io;
-use std::io::{Error, Read, Write};
+use std::io::{Eprint, Error, Read, Write};
+use std::process::ExitCode;
 
 // The length of the sheet that was read, or that there is none.
 #[derive(Clone, Copy)]
@@ -161,4 +162,15 @@ pub fn next_sheet<R: Read, W: Write>(
         return cut(writer);
     }
     Ok(Next { size, none: false })
+}
+
+// How a program ends: well, or with the failure in one line on standard error and status 1.
+pub fn ended<E: Eprint>(rt: &E, done: io::Result<()>) -> ExitCode {
+    match done {
+        Ok(()) => ExitCode::SUCCESS,
+        Err(e) => {
+            let _ = rt.eprintln(e);
+            ExitCode::FAILURE
+        }
+    }
 }

@@ -6,6 +6,7 @@ use answers::Answer;
 use held::Taken;
 use std::io;
 use std::io::{Read, Write};
+use std::process::ExitCode;
 
 fn same_floats(a: &[f64], b: &[f64]) -> bool {
     if a.len() != b.len() {
@@ -307,7 +308,7 @@ fn step<R: Read, W: Write>(reader: &mut R, writer: &mut W) -> io::Result<bool> {
     Ok(true)
 }
 
-fn main(rt: HostRuntime) -> io::Result<()> {
+fn run(rt: &HostRuntime) -> io::Result<()> {
     let mut reader = rt.stdin();
     let mut writer = rt.stdout();
     for _ in 0..u64::MAX {
@@ -316,4 +317,9 @@ fn main(rt: HostRuntime) -> io::Result<()> {
         }
     }
     Ok(())
+}
+
+fn main(rt: HostRuntime) -> ExitCode {
+    let done = run(&rt);
+    standard::ended(&rt, done)
 }

@@ -9,6 +9,7 @@ ghost use Rattle.std.specs.Prelude.{◌≤◌, length};
 use sale::Verdict;
 use std::io;
 use std::io::{Read, Write};
+use std::process::ExitCode;
 use tolerance::Limits;
 
 // Three f64s, one behind the other.
@@ -73,7 +74,7 @@ fn step<R: Read, W: Write>(reader: &mut R, writer: &mut W) -> io::Result<bool> {
     Ok(true)
 }
 
-fn main(rt: HostRuntime) -> io::Result<()> {
+fn run(rt: &HostRuntime) -> io::Result<()> {
     let mut reader = rt.stdin();
     let mut writer = rt.stdout();
     for _ in 0..u64::MAX {
@@ -82,4 +83,9 @@ fn main(rt: HostRuntime) -> io::Result<()> {
         }
     }
     Ok(())
+}
+
+fn main(rt: HostRuntime) -> ExitCode {
+    let done = run(&rt);
+    standard::ended(&rt, done)
 }

@@ -4,6 +4,7 @@
 
 use std::io;
 use std::io::Write;
+use std::process::ExitCode;
 
 fn show<W: Write>(writer: &mut W, word: &[u8]) -> io::Result<()> {
     let w = decimal_words::spelled_number(word);
@@ -43,10 +44,15 @@ fn show_lines<W: Write>(writer: &mut W, text: &[u8]) -> io::Result<()> {
     }
 }
 
-fn main(rt: HostRuntime) -> io::Result<()> {
+fn run(rt: &HostRuntime) -> io::Result<()> {
     let mut reader = rt.stdin();
     let mut writer = rt.stdout();
     let mut buffer = [0u8; 65536];
     let n = standard::fill(&mut reader, &mut buffer)?;
     show_lines(&mut writer, &buffer[..n])
+}
+
+fn main(rt: HostRuntime) -> ExitCode {
+    let done = run(&rt);
+    standard::ended(&rt, done)
 }
