@@ -5,6 +5,7 @@
 
 ghost use Rattle.std.specs.Prelude.{◌+◌, ◌<◌, ◌≤◌, ◌≡◌, length, take, drop, decimal, IfOk, OnOk, OnErr, IfSome};
 ghost use Rattle.std.specs.Counts.{IsPrefixLen};
+ghost use Rattle.std.specs.Process.{exit_status};
 ghost use Rattle.std.specs.Io.KnownBytes.{Appends, Consumes, IsAtEnd, Keeps};
 ghost use Rattle.standard.specs.Standard.{item_of};
 
@@ -165,7 +166,10 @@ pub fn next_sheet<R: Read, W: Write>(
 }
 
 // How a program ends: well, or with the failure in one line on standard error and status 1.
-pub fn ended<E: Eprint>(rt: &E, done: io::Result<()>) -> ExitCode {
+pub fn ended<E: Eprint>(rt: &E, done: io::Result<()>) -> ExitCode
+    ensures well { OnOk done (exit_status result ≡ 0) }
+    ensures failed { OnErr done (exit_status result ≡ 1) }
+{
     match done {
         Ok(()) => ExitCode::SUCCESS,
         Err(e) => {
