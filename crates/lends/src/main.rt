@@ -181,7 +181,7 @@ fn step<R: Read, W: Write>(reader: &mut R, writer: &mut W) -> io::Result<bool> {
     run_within(writer, &buffer[..size], l)
 }
 
-fn run(rt: &HostRuntime) -> io::Result<()> {
+fn lend_all(rt: &HostRuntime) -> io::Result<()> {
     let mut reader = rt.stdin();
     let mut writer = rt.stdout();
     for _ in 0..100000u32 {
@@ -193,6 +193,6 @@ fn run(rt: &HostRuntime) -> io::Result<()> {
 }
 
 fn main(rt: HostRuntime) -> ExitCode {
-    let done = run(&rt);
+    let done = lend_all(&rt);
     standard::ended(&rt, done)
 }

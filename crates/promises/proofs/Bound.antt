@@ -256,8 +256,3 @@ start_room s l e =
       statuses = omega (arith, w.links, codes_long s l l.links (replicate 128 0), length-replicate {A = ℕ} 128 0);
       grounded = omega (arith, w.nodes, length-replicate 64 false);
     }
-
--- Of the solve of any sheet, wherever a run of failed trials begins.
-pub solve_repairs_end : SolveRepairsEnd
-unfolding run_in point_in start_point
-solve_repairs_end s l e i = repairs_end s l (network_of s l e).unknowns i (trials_of s) (start_point s l) (start_room s l e)

@@ -49,7 +49,8 @@ use Rattle.promises.specs.Causes.{end_number, end_place, Cause, sheet, short, en
 use Rattle.promises.specs.Statements.{ToldOfCause, CauseOfTold, RefusedBySheet, SheetOnly, SolveEndsBy, RunsATrial, ZeroConverged, SixSingular, SevenWild, EightLimit}
 use Rattle.promises.proofs.Never.{other}
 use Rattle.promises.proofs.Repairs.{refused_only}
-use Rattle.promises.proofs.Trials.{solve_each_entry, solve_each_state, solve_last_state}
+use Rattle.promises.proofs.Trials.{solve_each_state, solve_last_state}
+use Rattle.promises.proofs.EachEntry.{solve_each_entry}
 use Rattle.promises.proofs.Solves.{comes, ways, tells}
 use Rattle.promises.proofs.Counts.{trials_are}
 

@@ -48,7 +48,7 @@ use Rattle.promises.specs.Marks.{marked, Counted, Shown}
 use Rattle.promises.specs.Statements.{SolveCounts, TrialsAre, EntryShown, NumberShown, VfFreed, GnGrounded}
 use Rattle.promises.proofs.Never.{never}
 use Rattle.promises.proofs.Repairs as repairs
-use Rattle.promises.proofs.Trials.{solve_each_entry}
+use Rattle.promises.proofs.EachEntry.{solve_each_entry}
 use Rattle.promises.proofs.Bound.{stop_node_lem}
 use Rattle.promises.proofs.Solves.{comes, ways, runs_enough, tells}
 

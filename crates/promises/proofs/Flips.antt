@@ -54,7 +54,7 @@ use Rattle.solver.proofs.Laws.{network_of}
 use Rattle.promises.specs.Trials.{run_in, point_in}
 use Rattle.promises.specs.Solves.{Runs}
 use Rattle.promises.proofs.Never.{other, never}
-use Rattle.promises.proofs.Trials.{solve_each_entry}
+use Rattle.promises.proofs.EachEntry.{solve_each_entry}
 use Rattle.promises.proofs.Counts.{entry_shown, number_shown}
 use Rattle.promises.proofs.Repairs as repairs
 

@@ -30,9 +30,10 @@ use Rattle.promises.specs.Grounding.{Carries, Entered, GnBefore, SixShown}
 use Rattle.promises.specs.Statements.{UnmarkedAtStart, MarkHasEntry, MarkIsShown, SixWasGrounded, SixIsShown}
 use Rattle.promises.proofs.Never.{never}
 use Rattle.promises.proofs.Repairs.{ways, trial_refuses, grounded_only}
-use Rattle.promises.proofs.Trials.{solve_each_entry, solve_each_state}
+use Rattle.promises.proofs.Trials.{solve_each_state}
+use Rattle.promises.proofs.EachEntry.{solve_each_entry}
 use Rattle.promises.proofs.Bound.{start_room}
-use Rattle.promises.proofs.Once as once
+use Rattle.promises.proofs.GroundedOnce as once
 use Rattle.promises.proofs.Counts.{has, shows, entry_shown, number_shown, gn_grounded, trials_are}
 use Rattle.promises.proofs.Causes.{runs_a_trial, last_is, six_singular}
 

@@ -3,8 +3,11 @@ pub mod Flags
 pub mod Never
 pub mod Repairs
 pub mod Trials
+pub mod EachEntry
 pub mod Bound
+pub mod BoundOfSolve
 pub mod Once
+pub mod GroundedOnce
 pub mod Solves
 pub mod Counts
 pub mod Unmended

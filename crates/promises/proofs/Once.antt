@@ -34,13 +34,6 @@ module _ (s : List ℕ) (l : Layout) where
       (λ u w. get_or-set_other p.state.grounded u v true false (λ e. never (sym w.yet ∙ ap (λ (i : ℕ). get_or p.state.grounded i false) (sym e) ∙ h)) ∙ h)
       (λ u w. h) (λ g y x. h)
 
-  pub marks_stay : (c i : ℕ) (p : Point) (v : ℕ) → get_or (after_trials s l i p).state.grounded v false ≡ true → get_or (after_trials s l (c + i) p).state.grounded v false ≡ true
-  marks_stay zero i p v h = rw zero-add h
-  marks_stay (suc c) i p v h =
-      rw suc-add
-      (ap (λ (t : State). get_or t.grounded v false) (each_state s l (c + i) p)
-      ∙ mark_stays (after_trials s l (c + i) p) v (marks_stay c i p v h))
-
   -- A trial that grounds a node sets its mark,
   pub marked : l.unknowns ≡ serving s l l.nodes → (i : ℕ) (p : Point) → Room l p.state → (v : ℕ) → Grounds s l (after_trials s l i p).state v → get_or (after_trials s l (suc i) p).state.grounded v false ≡ true
   marked right i p w v g =
@@ -48,20 +41,3 @@ module _ (s : List ℕ) (l : Layout) where
       ap (λ (t : State). get_or t.grounded v false) (each_state s l i p)
       ∙ ap (λ (o : Outcome). get_or o.state.grounded v false) (trial_grounds s l at.damping at.state v g)
       ∙ get_or-set_same at.state.grounded v true false (omega (arith, (room_after s l right i p w).grounded, (stop_node_lem s l right at.state v g.stops).0))
-
-  -- so no two entries of a run ground one node. For every number of nodes, links and trials.
-  pub grounded_once : l.unknowns ≡ serving s l l.nodes → (m : ℕ) (p : Point) → Room l p.state → (v : NodeIndex) (i j : ℕ) → i < j → j < length (run_at s l m p).entries
-      → get_or (run_at s l m p).entries i no_entry ≡ Grounded v → get_or (run_at s l m p).entries j no_entry ≡ Grounded v → ⊥
-  grounded_once right m p w v i j z h a b =
-      let x = after_trials s l i p in
-      let y = after_trials s l j p in
-      let first = grounded_only s l x.damping x.state v (sym (each_entry s l m i p (omega arith)) ∙ a) in
-      let second = grounded_only s l y.damping y.state v (sym (each_entry s l m j p h) ∙ b) in
-      let e : (j - suc i) + suc i ≡ j = omega arith in
-      let on = marks_stay (j - suc i) (suc i) p v.0 (marked right i p w v.0 first) in
-      never (sym second.yet ∙ ap (λ (c : ℕ). get_or (after_trials s l c p).state.grounded v.0 false) (sym e) ∙ on)
-
--- Of the solve of any sheet.
-pub solve_grounded_once : SolveGroundedOnce
-unfolding run_in start_point
-solve_grounded_once s l e = grounded_once s l (network_of s l e).unknowns (trials_of s) (start_point s l) (start_room s l e)

@@ -20,8 +20,8 @@ use Rattle.promises.specs.Bound.{failing, fails_at}
 use Rattle.promises.specs.Solves.{Runs}
 use Rattle.promises.specs.Marks.{marked, number_at, Shown}
 use Rattle.promises.specs.Statements.{RepairsEndShown, GroundedOnceShown}
-use Rattle.promises.proofs.Bound.{solve_repairs_end}
-use Rattle.promises.proofs.Once.{solve_grounded_once}
+use Rattle.promises.proofs.BoundOfSolve.{solve_repairs_end}
+use Rattle.promises.proofs.GroundedOnce.{solve_grounded_once}
 use Rattle.promises.proofs.Solves.{comes, ways}
 use Rattle.promises.proofs.Counts.{has, shows, entry_shown, number_shown, gn_grounded, trials_are}
 use Rattle.promises.proofs.Grounding.{gn_number}

@@ -132,12 +132,7 @@ pub solve_last_state : SolveLastState
 unfolding run_in point_in
 solve_last_state s l = last_state s l (trials_of s) (start_point s l)
 
--- each entry is that of a trial of the state before it,
-pub solve_each_entry : SolveEachEntry
-unfolding run_in point_in
-solve_each_entry s l i h = each_entry s l (trials_of s) i (start_point s l) h
-
--- the state after it is the one that this trial leaves,
+-- the state after each entry is the one that its trial leaves,
 pub solve_each_state : SolveEachState
 unfolding point_in
 solve_each_state s l i = each_state s l i (start_point s l)
