@@ -32,7 +32,7 @@ module _ (s : List ℕ) (l : Layout) where
   marks_stay (suc c) i p v h =
       rw suc-add
       (ap (λ (t : State). get_or t.grounded v false) (each_state s l (c + i) p)
-      ∙ mark_stays (after_trials s l (c + i) p) v (marks_stay c i p v h))
+      ∙ mark_stays s l (after_trials s l (c + i) p) v (marks_stay c i p v h))
 
   -- so no two entries of a run ground one node. For every number of nodes, links and trials.
   pub grounded_once : l.unknowns ≡ serving s l l.nodes → (m : ℕ) (p : Point) → Room l p.state → (v : NodeIndex) (i j : ℕ) → i < j → j < length (run_at s l m p).entries
@@ -43,7 +43,7 @@ module _ (s : List ℕ) (l : Layout) where
       let first = grounded_only s l x.damping x.state v (sym (each_entry s l m i p (omega arith)) ∙ a) in
       let second = grounded_only s l y.damping y.state v (sym (each_entry s l m j p h) ∙ b) in
       let e : (j - suc i) + suc i ≡ j = omega arith in
-      let on = marks_stay (j - suc i) (suc i) p v.0 (marked right i p w v.0 first) in
+      let on = marks_stay (j - suc i) (suc i) p v.0 (marked s l right i p w v.0 first) in
       never (sym second.yet ∙ ap (λ (c : ℕ). get_or (after_trials s l c p).state.grounded v.0 false) (sym e) ∙ on)
 
 -- Of the solve of any sheet.

@@ -34,6 +34,7 @@ use Rattle.promises.proofs.Trials.{solve_each_state}
 use Rattle.promises.proofs.EachEntry.{solve_each_entry}
 use Rattle.promises.proofs.Bound.{start_room}
 use Rattle.promises.proofs.GroundedOnce as once
+use Rattle.promises.proofs.Once as marks
 use Rattle.promises.proofs.Counts.{has, shows, entry_shown, number_shown, gn_grounded, trials_are}
 use Rattle.promises.proofs.Causes.{runs_a_trial, last_is, six_singular}
 
@@ -90,7 +91,7 @@ module _ (s : List ℕ) (l : Layout) where
     unfolding point_in start_point
     carried i j v h g =
         let e : (i - suc j) + suc j ≡ i = omega arith in
-        let set = once.marked s l (network_of s l read).unknowns j (start_point s l) (start_room s l read) v g in
+        let set = marks.marked s l (network_of s l read).unknowns j (start_point s l) (start_room s l read) v g in
         ap (λ (c : ℕ). get_or (after_trials s l c (start_point s l)).state.grounded v false) (sym e)
         ∙ once.marks_stay s l (i - suc j) (suc j) (start_point s l) v set
 
