@@ -131,14 +131,12 @@ returns-in-Pipes-clause-tabled c =
 pub returns-in-Valves-clause-known : goal.returns-in-Valves-clause-known
 returns-in-Valves-clause-known c =
     let ws : List (List ℕ) = words_of c.args.line.now in
-    let kind_told : Links-in ws Valves c.valve_kind-kind.result = subst (Links-in ws Valves) (sym c.valve_kind-kind.ensures) valves in
-    (link_known c.requires.words.1 ws c.in-Valves.is c.requires.line_value kind_told c.keep-in-Valves.new.rows (c.keep-in-Valves.ensures.rows, (c.keep-in-Valves.ensures.kept, c.keep-in-Valves.ensures.long)) c.with_link-in-Valves.result c.with_link-in-Valves.ensures).0
+    (link_known c.requires.words.1 ws c.in-Valves.is c.requires.line_value (subst (Links-in ws Valves) (sym c.valve_kind-kind.ensures) valves) c.keep-in-Valves.new.rows (c.keep-in-Valves.ensures.rows, (c.keep-in-Valves.ensures.kept, c.keep-in-Valves.ensures.long)) c.with_link-in-Valves.result c.with_link-in-Valves.ensures).0
 
 pub returns-in-Valves-clause-tabled : goal.returns-in-Valves-clause-tabled
 returns-in-Valves-clause-tabled c =
     let ws : List (List ℕ) = words_of c.args.line.now in
-    let kind_told : Links-in ws Valves c.valve_kind-kind.result = subst (Links-in ws Valves) (sym c.valve_kind-kind.ensures) valves in
-    (link_known c.requires.words.1 ws c.in-Valves.is c.requires.line_value kind_told c.keep-in-Valves.new.rows (c.keep-in-Valves.ensures.rows, (c.keep-in-Valves.ensures.kept, c.keep-in-Valves.ensures.long)) c.with_link-in-Valves.result c.with_link-in-Valves.ensures).1
+    (link_known c.requires.words.1 ws c.in-Valves.is c.requires.line_value (subst (Links-in ws Valves) (sym c.valve_kind-kind.ensures) valves) c.keep-in-Valves.new.rows (c.keep-in-Valves.ensures.rows, (c.keep-in-Valves.ensures.kept, c.keep-in-Valves.ensures.long)) c.with_link-in-Valves.result c.with_link-in-Valves.ensures).1
 
 pub returns-in-Status-clause-known : goal.returns-in-Status-clause-known
 returns-in-Status-clause-known c =

@@ -14,12 +14,8 @@ returns-then-is_keyword c = sym (rw (sym c.is_keyword.ensures ∙ c.if-is_keywor
 
 pub returns-then-is_keyword-2 : goal.returns-then-is_keyword-2
 unfolding said_of bytes_of
-returns-then-is_keyword-2 c =
-    let not_closed : keyword_at (words_of c.args.line.now) 1 (bytes_of "CLOSED") ≡ false = sym c.is_keyword.ensures ∙ c.if-is_keyword.false in
-    sym (rw (not_closed, sym c.is_keyword-2.ensures ∙ c.if-is_keyword-2.true))
+returns-then-is_keyword-2 c = sym (rw (sym c.is_keyword.ensures ∙ c.if-is_keyword.false, sym c.is_keyword-2.ensures ∙ c.if-is_keyword-2.true))
 
 pub returns : goal.returns
 unfolding said_of bytes_of
-returns c =
-    let not_closed : keyword_at (words_of c.args.line.now) 1 (bytes_of "CLOSED") ≡ false = sym c.is_keyword.ensures ∙ c.if-is_keyword.false in
-    sym (rw (not_closed, sym c.is_keyword-2.ensures ∙ c.if-is_keyword-2.false))
+returns c = sym (rw (sym c.is_keyword.ensures ∙ c.if-is_keyword.false, sym c.is_keyword-2.ensures ∙ c.if-is_keyword-2.false))

@@ -65,8 +65,7 @@ value_from-requires c =
     let point : ℕ = c.before_point-point.result in
     let long : length a ≡ point = ap length c.first_bytes-whole.ensures ∙ length-take-le point m c.before_point-point.ensures.1 in
     let some : length a + length b ≡ 0 → ⊥ = λ e. c.if-point-places-eq0.false (omega (arith, long)) in
-    let few : length a + length b ≤ 17 = omega (arith, long, c.if-point-places-gt17.false) in
-    (whole_is, room_whole m a b a_is b_is whole_is part_is some few)
+    (whole_is, room_whole m a b a_is b_is whole_is part_is some (omega (arith, long, c.if-point-places-gt17.false)))
 
 pub value_from-requires-2 : goal.value_from-requires-2
 value_from-requires-2 c =
@@ -80,8 +79,7 @@ value_from-requires-2 c =
     let point : ℕ = c.before_point-point.result in
     let long : length a ≡ point = ap length c.first_bytes-whole.ensures ∙ length-take-le point m c.before_point-point.ensures.1 in
     let some : length a + length b ≡ 0 → ⊥ = λ e. c.if-point-places-eq0.false (omega (arith, long)) in
-    let few : length a + length b ≤ 17 = omega (arith, long, c.if-point-places-gt17.false) in
-    (part_is, rw c.value_from.ensures (room-part m a b a_is b_is whole_is part_is some few))
+    (part_is, rw c.value_from.ensures (room-part m a b a_is b_is whole_is part_is some (omega (arith, long, c.if-point-places-gt17.false))))
 
 pub returns : goal.returns
 returns c =
@@ -95,5 +93,4 @@ returns c =
     let point : ℕ = c.before_point-point.result in
     let long : length a ≡ point = ap length c.first_bytes-whole.ensures ∙ length-take-le point m c.before_point-point.ensures.1 in
     let some : length a + length b ≡ 0 → ⊥ = λ e. c.if-point-places-eq0.false (omega (arith, long)) in
-    let few : length a + length b ≤ 17 = omega (arith, long, c.if-point-places-gt17.false) in
-    good-digits m a b a_is b_is whole_is part_is some few c.value_from-2.result (c.value_from-2.ensures ∙ ap (λ (n : ℕ). value_from n b) c.value_from.ensures)
+    good-digits m a b a_is b_is whole_is part_is some (omega (arith, long, c.if-point-places-gt17.false)) c.value_from-2.result (c.value_from-2.ensures ∙ ap (λ (n : ℕ). value_from n b) c.value_from.ensures)
