@@ -19,7 +19,7 @@ from coordinator import crates, programs
 PARTS = ("src", "specs", "proofs")
 LEAST = 2
 # read_within under base_bounds; writes
-EXCEPT = {("sheet", "read"), ("standard", "put"), ("standard", "put_decimal"), ("standard", "put_hex"), ("text_out", "show"),
+EXCEPT = {("sheet", "read"), ("standard", "put_hex"), ("text_out", "show"),
           ("rows_out", "show_rows")}
 
 
