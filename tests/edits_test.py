@@ -72,7 +72,6 @@ EDITS = {  # what is to be said of each
 LOST = "rt: must-fail upper/lost.edit: NOT TRIED: its check was killed, most likely for memory, so nothing is known of it: run this again"
 FALSE = "rt: must-fail upper/false.edit: refused, as it must be: ./proofs/kept/Answers.antt:5:13: error: `returns`: it differs"
 LIMIT = "rt: must-fail upper/limit.edit: refused, as it must be (only by a limit of the prover, which gave no verdict, so this says less of the contract: choose a change that it refuses sooner): antt ran out of steps"
-UNPROVED = "rt: upper: the check that its must-fail edits begin with did not end well, most likely for memory, so each was tried from nothing"
 
 
 class Repository(unittest.TestCase):
@@ -111,6 +110,13 @@ class Prover(Repository):
         self.assertIn("upper false: refused: ./proofs/kept/Answers.antt:5:13: error: `returns`: ", "\n".join(lines))
         self.assertEqual(lines[-1], "2 refused, 10 not as they must be, 0 of which nothing was said")
 
+    def test_a_crate_that_is_not_proved(self):
+        self.edit("false")
+        self.write("crates/upper/src/lib.rt", CRATES["crates/upper/src/lib.rt"].replace("lower::same(x)", "lower::same(x) + 1"))
+        status, lines = self.run_edits()
+        self.assertEqual((status, lines[0]), (1, "upper is not proved, so no edit was tried: `rt check` in crates/upper tells why"))
+        self.assertEqual(lines[1:], ["0 refused, 0 not as they must be, 0 of which nothing was said"])
+
 
 class StandIn(Repository):
     """With an `rt` that prints these lines, and notes how it was called."""
@@ -133,7 +139,7 @@ class StandIn(Repository):
         self.edit("false", "limit")
         self.rt("rt: chose --jobs 2 for upper", FALSE, LIMIT)
         status, lines = self.run_edits()
-        self.assertEqual((status, self.runs()), (0, ["must-fail upper"]))
+        self.assertEqual((status, self.runs()), (0, ["check", "must-fail upper"]))
         self.assertEqual(lines[0], "upper false: refused: ./proofs/kept/Answers.antt:5:13: error: `returns`: it differs")
         self.assertEqual(lines[-1], "2 refused, 0 not as they must be, 0 of which nothing was said")
 
@@ -149,12 +155,6 @@ class StandIn(Repository):
         self.rt(FALSE)
         self.assertEqual(self.run_edits(), (1, ["upper false: refused: ./proofs/kept/Answers.antt:5:13: error: `returns`: it differs",
                                                 "1 refused, 0 not as they must be, 1 of which nothing was said"]))
-
-    def test_a_crate_that_is_not_proved(self):
-        self.edit("false")
-        self.rt(UNPROVED, FALSE)
-        status, lines = self.run_edits()
-        self.assertEqual((status, lines[0]), (1, "upper is not proved, so its edits say nothing: `rt check` in crates/upper first"))
 
     def test_stops_in_one_line(self):
         self.edit("false")

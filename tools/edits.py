@@ -6,7 +6,7 @@
 `rt must-fail` begins with what `rt check` kept and tries again only what changed. Here each edit has a line with the
 crate, the edit, the verdict and rt's reason. UNFIT is a refusal that says only that the proof no longer fits: a proof
 file names what the edited code has not. BAD EDIT is one that cannot be applied, compiled or read, NOT TRIED one whose
-check was cut off. Where the unedited crate itself is not proved, its edits say nothing.
+check was cut off. Where the unedited crate itself is not proved, its edits say nothing, so its `rt check` comes first.
 
 Exit status: 0 every edit was refused, and fits; 1 one was not, or a crate is not proved; 2 bad use.
 """
@@ -22,7 +22,6 @@ from coordinator import crates, programs
 
 REFUSED, UNFIT, PROVED, BAD, UNTRIED = "refused", "UNFIT", "NOT REFUSED", "BAD EDIT", "NOT TRIED"
 TRIED = re.compile(r"rt: must-fail (\w+)/([\w.-]+)\.edit: (refused|NOT REFUSED|BAD EDIT|NOT TRIED)\b[:,]? ?(.*)")
-UNPROVED = re.compile(r"rt: (\w+): the check that its must-fail edits begin with did not end well")
 ONLY_THE_PROOF = "(only because a proof file names"
 WIDTH = 160
 
@@ -60,18 +59,25 @@ def said(root, names):
         yield from process.stdout
 
 
+def proved(root, name):
+    """`rt must-fail` would call any edit of a crate refused that is not proved as it stands."""
+    folder = os.path.join(root, "crates", name)
+    return subprocess.run(["rt", "check"], cwd=folder, stdin=subprocess.DEVNULL, capture_output=True, check=False).returncode == 0
+
+
 def run(root, names):
     """Tries the edits; gives the exit status."""
-    chosen, verdicts, unproved = with_edits(root, names), {}, []
-    for line in said(root, chosen):
-        told, lacks = judged(line.rstrip("\n")), UNPROVED.match(line)
+    verdicts, chosen, unproved = {}, [], []
+    for name in with_edits(root, names):
+        (chosen if proved(root, name) else unproved).append(name)
+    for name in unproved:
+        print("%s is not proved, so no edit was tried: `rt check` in crates/%s tells why" % (name, name), flush=True)
+    for line in said(root, chosen) if chosen else ():
+        told = judged(line.rstrip("\n"))
         if told:
             crate, edit, verdict, why = told
             verdicts[crate, edit] = verdict
             print("%s %s: %s: %s" % (crate, edit, verdict, why[:WIDTH]), flush=True)
-        elif lacks:
-            unproved.append(lacks.group(1))
-            print("%s is not proved, so its edits say nothing: `rt check` in crates/%s first" % (2 * lacks.groups()), flush=True)
     untold = [path for name in chosen for path in glob.glob(os.path.join(root, "crates", name, "must-fail", "*.edit"))
               if (name, os.path.basename(path)[:-len(".edit")]) not in verdicts]
     wrong = [verdict for verdict in verdicts.values() if verdict != REFUSED]
