@@ -1,10 +1,7 @@
 -- `status_lines::status_said` meets its contract. Assumes nothing.
-use mathlib.Core.Path.{◌≡◌, sym, ◌∙◌}
-use mathlib.Core.Bool.{false}
+use mathlib.Core.Path.{sym, ◌∙◌}
 use borrow.Author.Rules.{rules}
-use Rattle.line_words.specs.Words.{words_of}
 use Rattle.spelled.specs.Texts.{bytes_of}
-use Rattle.line_fields.specs.Fields.{keyword_at}
 use Rattle.status_lines.specs.Status.{said_of}
 use Rattle.status_lines.proofs.status_said.Goals as goal
 
