@@ -52,9 +52,9 @@ def judged(line):
     return crate, edit, verdict, why
 
 
-def said(root, names):
+def said(root, name):
     """The lines of `rt must-fail`, as they come."""
-    with subprocess.Popen(["rt", "must-fail", *names], cwd=root, stdin=subprocess.DEVNULL, stdout=subprocess.PIPE,
+    with subprocess.Popen(["rt", "must-fail", name], cwd=root, stdin=subprocess.DEVNULL, stdout=subprocess.PIPE,
                           stderr=subprocess.STDOUT, universal_newlines=True, errors="replace") as process:
         yield from process.stdout
 
@@ -69,15 +69,17 @@ def run(root, names):
     """Tries the edits; gives the exit status."""
     verdicts, chosen, unproved = {}, [], []
     for name in with_edits(root, names):
-        (chosen if proved(root, name) else unproved).append(name)
-    for name in unproved:
-        print("%s is not proved, so no edit was tried: `rt check` in crates/%s tells why" % (name, name), flush=True)
-    for line in said(root, chosen) if chosen else ():
-        told = judged(line.rstrip("\n"))
-        if told:
-            crate, edit, verdict, why = told
-            verdicts[crate, edit] = verdict
-            print("%s %s: %s: %s" % (crate, edit, verdict, why[:WIDTH]), flush=True)
+        if not proved(root, name):
+            unproved.append(name)
+            print("%s is not proved, so no edit was tried: `rt check` in crates/%s tells why" % (name, name), flush=True)
+            continue
+        chosen.append(name)
+        for line in said(root, name):
+            told = judged(line.rstrip("\n"))
+            if told:
+                crate, edit, verdict, why = told
+                verdicts[crate, edit] = verdict
+                print("%s %s: %s: %s" % (crate, edit, verdict, why[:WIDTH]), flush=True)
     untold = [path for name in chosen for path in glob.glob(os.path.join(root, "crates", name, "must-fail", "*.edit"))
               if (name, os.path.basename(path)[:-len(".edit")]) not in verdicts]
     wrong = [verdict for verdict in verdicts.values() if verdict != REFUSED]
