@@ -8,7 +8,7 @@ import unittest
 ROOT = os.path.dirname(os.path.dirname(os.path.abspath(__file__)))
 sys.path.insert(0, os.path.join(ROOT, "tools"))
 
-from wrong_programs import passed_on
+from wrong_programs import Sources
 
 
 def read(*parts):
@@ -23,14 +23,8 @@ def libraries():
 
 
 def public_functions(crate):
-    """Those of lib.rt itself, and those of its modules that it passes on."""
-    top = read("crates", crate, "src", "lib.rt")
-    found = re.findall(r'^pub (?:extern "C" )?fn (\w+)', top, re.M)
-    for module, name in passed_on(top):
-        path = os.path.join("crates", crate, "src", module + ".rt")
-        if os.path.exists(os.path.join(ROOT, path)) and re.search(r"^pub fn %s\b" % name, read(path), re.M):
-            found.append(name)
-    return found
+    """Those of lib.rt itself and those that it passes on, methods and conversions by their type."""
+    return [re.sub(r"<.*", "", name) for _, name in Sources(ROOT, crate).public]
 
 
 class Rows(unittest.TestCase):

@@ -201,13 +201,12 @@ class Function:
     def __init__(self, specs, sources, crate, file, name):
         self.specs, self.crate, self.name = specs, crate, name
         self.texts = list(sources.texts.values())
-        text = sources.texts[file]
-        self.names = imported(text)
-        head = re.search(r'^pub (?:extern "C" )?fn %s(?:<[^>]*>)?\((.*?)\)(?: -> ([^\n{]+?))?\s*\n?((?:    (?:requires|ensures) [^\n]*\n)*)\s*\{'
-                         % name, text, re.M | re.S)
-        self.buffers = re.findall(r"(\w+): &(?:'\w+ )?mut ", head.group(1))
+        self.names = imported(sources.texts[file])
+        head = re.search(r'^ *(?:pub )?(?:extern "C" )?fn \w+(?:<(?:[^<>]|->|<[^<>]*>)*>)?\((.*?)\)(?: -> ([^\n{]+?))?\s*\n?'
+                         r'((?: +(?:requires|ensures) [^\n]*\n)*)\s*\{', sources.body((file, name)), re.M | re.S)
+        self.buffers = re.findall(r"(\w+): &(?:'\w+ )?mut ", head.group(1)) + re.findall(r"&mut (self)\b", head.group(1))
         self.result = (head.group(2) or "").strip()
-        self.clauses = re.findall(r"^    ensures (?:\w+ )?\{ (.*) \}$", head.group(3), re.M)
+        self.clauses = re.findall(r"^ +ensures (?:\w+ )?\{ (.*) \}$", head.group(3), re.M) + given(sources, (file, name))
         self.settled, self.fields, self.definitions, self.passed_over = set(), set(), [], []
         for clause in self.clauses:
             self.clause(clause)
@@ -329,6 +328,16 @@ class Function:
             self.part(value)
 
 
+def given(sources, key):
+    """What a conversion gives, which its `impl` says in place of a clause."""
+    block = sources.heads.get(key)
+    if block is None:
+        return []
+    lines = sources.texts[key[0]].split("\n")[block:sources.spans[key][0]]
+    found = [re.match(r"    ghost (?:try_)?from_gives = \{ λ \w+ (\w+)\. (.*) \};$", line) for line in lines]
+    return [re.sub(r"\b%s\b" % at.group(1), RESULT, at.group(2)) for at in found if at]
+
+
 def functions(root):
     specs = Specs(root)
     for crate in crates.listed(read(os.path.join(root, "crates.txt"))):
@@ -340,8 +349,8 @@ def functions(root):
 def excepted(paper):
     """Those that docs/EXCEPTIONS.md names: standard's `put`."""
     found = set()
-    for crate, names in re.findall(r"\b([a-z_]+)'s ((?:`\w+`(?:, | and )?)+)", paper):
-        found |= {(crate, name) for name in re.findall(r"`(\w+)`", names)}
+    for crate, names in re.findall(r"\b([a-z_]+)'s ((?:`[\w:]+`(?:, | and )?)+)", paper):
+        found |= {(crate, name) for name in re.findall(r"`([\w:]+)`", names)}
     return found
 
 

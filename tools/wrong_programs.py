@@ -19,8 +19,7 @@ from coordinator import crates, programs
 PARTS = ("src", "specs", "proofs")
 LEAST = 2
 # read_within under base_bounds; writes
-EXCEPT = {("sheet", "read"), ("standard", "put_hex"), ("text_out", "show"),
-          ("rows_out", "show_rows")}
+EXCEPT = {("sheet", "read"), ("text_out", "show"), ("rows_out", "show_rows")}
 
 
 def edits_of(root, crate):
@@ -54,6 +53,12 @@ def passed_on(source):
             yield module, name
 
 
+def method(head, name):
+    """A function in an `impl` block by its type and name: `Table::put`, and of a conversion `Kind::from<u8>`."""
+    found = re.match(r"impl(?:<[^>]*>)? (?:(?:Try)?From(<\w+>) for )?(\w+)", head)
+    return "%s::%s%s" % (found.group(2), name, found.group(1) or "")
+
+
 class Sources:
     """The functions and constants of a crate's src/, and who names whom."""
 
@@ -62,23 +67,38 @@ class Sources:
         paths = glob.glob(os.path.join(self.folder, "src", "**", "*.rt"), recursive=True)
         self.texts = {os.path.relpath(path, self.folder): read(path) for path in sorted(paths)}
         self.spans = {}  # (file, name): first line, last line
+        self.heads = {}  # the same, of a function in an `impl` block: the block's first line
         for file, text in self.texts.items():
-            lines = text.split("\n")
+            lines, block = text.split("\n"), 0
             for number, line in enumerate(lines):
-                found = re.match(r'(?:pub )?(?:extern "C" )?(?:fn|const) (\w+)', line)
-                if found:
+                block = number if line.startswith("impl") else block
+                found = re.match(r'(    )?(?:pub )?(?:extern "C" )?(?:fn|const) (\w+)', line)
+                if found and found.group(1):
+                    last = next(k for k in range(number, len(lines)) if lines[k] == "    }")
+                    self.spans[file, method(lines[block], found.group(2))] = number, last
+                    self.heads[file, method(lines[block], found.group(2))] = block
+                elif found:
                     ends = ("}",) if " const " not in " " + line else ("];", "}")
                     last = number if line.endswith(";") else next(k for k in range(number, len(lines)) if lines[k] in ends)
-                    self.spans[file, found.group(1)] = number, last
+                    self.spans[file, found.group(2)] = number, last
         self.public = self.exported()
 
     def exported(self):
-        """The public functions: those of lib.rt, and those of its modules that it passes on."""
+        """The public functions: those of lib.rt, and those of its modules that it passes on; the public methods of its
+        types, and their conversions."""
         top = self.texts.get("src/lib.rt", "")
         found = {("src/lib.rt", name) for name in re.findall(r'^pub (?:extern "C" )?fn (\w+)', top, re.M)}
+        types = set(re.findall(r"^pub (?:struct|enum) (\w+)", top, re.M))
         for module, name in passed_on(top):
-            file = "src/%s.rt" % module
-            if re.search(r"^pub fn %s\b" % name, self.texts.get(file, ""), re.M):
+            text = self.texts.get("src/%s.rt" % module, "")
+            if re.search(r"^pub fn %s\b" % name, text, re.M):
+                found.add(("src/%s.rt" % module, name))
+            if re.search(r"^pub (?:struct|enum) %s\b" % name, text, re.M):
+                types.add(name)
+        for (file, name), block in self.heads.items():
+            lines = self.texts[file].split("\n")
+            named = types & set(re.findall(r"\w+", lines[block]))
+            if named and (lines[self.spans[file, name][0]].startswith("    pub ") or re.match(r"impl (?:Try)?From<", lines[block])):
                 found.add((file, name))
         return sorted(found)
 
@@ -88,7 +108,7 @@ class Sources:
 
     def reached(self, key):
         """The function and what private ones and constants it names, one through the other."""
-        names = {name: (file, name) for file, name in self.spans}
+        names = {name.split("::")[-1]: (file, name) for file, name in self.spans}
         seen, left = set(), [key]
         while left:
             here = left.pop()

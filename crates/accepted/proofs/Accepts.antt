@@ -25,13 +25,11 @@ use Rattle.sheet.specs.Read.{first_bad, bad_node, bad_link, bad_field, bad_ends,
 use Rattle.accepted.specs.Accepted.{Accepted, none, cause_of, number_in}
 use Rattle.fields.specs.declared.fields.Bounds.{Bounds}
 use Rattle.refusals.specs.Refusals.{number_of}
-use Rattle.found.specs.declared.Found.{Found}
-use Rattle.found.specs.declared.Found.TheVariants.{At, Nothing}
 use Rattle.layout.specs.declared.places.Layout.{Layout}
-use Rattle.sheet.specs.declared.reading.Reading.TheVariants.{Good, Refused}
 use Rattle.refusals.specs.declared.refusals.Refusal.TheVariants.{Unreadable, NodeCount, LinkCount, Field, Ends}
 use Rattle.sheet.proofs.Laws.{and_left, and_right}
 use Rattle.sheet.proofs.Readings.{fine_some, fine_where, no_field, field-link, checked_good, right_counts, whole, each_node, each_link, each_ends, ends_in, laid_of, options_fit}
+use Rattle.std.specs.Prelude.{Err, None, Ok, Option, Some}
 
 -- ---- each number has its one cause
 
@@ -40,16 +38,16 @@ module _ (b : Bounds) (s : List ℕ) where
   unfolding checked number_of
   checked_cause l = go (bad_field b l s) (bad_ends l s)
     where
-      go : (f e : Found) → number_in (unless f Field (unless e Ends (Good (with_unknowns s l)))) ≡ cond {A = ℕ} (none f) (cond {A = ℕ} (none e) 0 4) 3
-      go (At p) e = refl
-      go Nothing (At p) = refl
-      go Nothing Nothing = refl
+      go : (f e : Option ℕ) → number_in (unless f Field (unless e Ends (Ok (with_unknowns s l)))) ≡ cond {A = ℕ} (none f) (cond {A = ℕ} (none e) 0 4) 3
+      go (Some p) e = refl
+      go None (Some p) = refl
+      go None None = refl
 
   scan_cause : (l : Layout) → number_in (after_scan b l s) ≡ cond {A = ℕ} (leb 1 l.nodes && leb l.nodes b.nodes && leb l.links b.links) (number_in (checked b l s)) 2
   unfolding after_scan number_of
   scan_cause l = go (leb 1 l.nodes && leb l.nodes b.nodes) (leb l.links b.links)
     where
-      go : (f e : Bool) → number_in (cond f (cond e (checked b l s) (Refused LinkCount)) (Refused NodeCount)) ≡ cond {A = ℕ} (f && e) (number_in (checked b l s)) 2
+      go : (f e : Bool) → number_in (cond f (cond e (checked b l s) (Err LinkCount)) (Err NodeCount)) ≡ cond {A = ℕ} (f && e) (number_in (checked b l s)) 2
       go true true = refl
       go true false = refl
       go false e = refl
@@ -62,14 +60,14 @@ module _ (b : Bounds) (s : List ℕ) where
       ∙ ap (λ (m : ℕ). cond {A = ℕ} (has_options s && eqb (end_of s) (length s)) m 1)
       (scan_cause l ∙ ap (λ (m : ℕ). cond {A = ℕ} (leb 1 l.nodes && leb l.nodes b.nodes && leb l.links b.links) m 2) (checked_cause l))
     where
-      go : (f e : Bool) → number_in (cond f (cond e (after_scan b (layout_of s) s) (Refused (Unreadable (end_of s)))) (Refused (Unreadable 0))) ≡ cond {A = ℕ} (f && e) (number_in (after_scan b (layout_of s) s)) 1
+      go : (f e : Bool) → number_in (cond f (cond e (after_scan b (layout_of s) s) (Err (Unreadable (end_of s)))) (Err (Unreadable 0))) ≡ cond {A = ℕ} (f && e) (number_in (after_scan b (layout_of s) s)) 1
       go true true = refl
       go true false = refl
       go false e = refl
 
 -- ---- a sheet is read exactly when it is accepted
 
-all_pass : (good : ℕ → Bool) (size k at : ℕ) → ((i : ℕ) → i < k → good (at + size * i) ≡ true) → first_bad good size k at ≡ Nothing
+all_pass : (good : ℕ → Bool) (size k at : ℕ) → ((i : ℕ) → i < k → good (at + size * i) ≡ true) → first_bad good size k at ≡ None
 unfolding first_bad
 all_pass good size zero at h = refl
 all_pass good size (suc k) at h =
@@ -78,15 +76,15 @@ all_pass good size (suc k) at h =
 
 module _ (b : Bounds) (s : List ℕ) (l : Layout) where
   -- none of the three searches finds a fault
-  no_bad_node : ((i : ℕ) → i < l.nodes → node_good b s (node_place l i) ≡ true) → bad_node b l s ≡ Nothing
+  no_bad_node : ((i : ℕ) → i < l.nodes → node_good b s (node_place l i) ≡ true) → bad_node b l s ≡ None
   unfolding bad_node
   no_bad_node h = all_pass (node_good b s) 45 l.nodes l.node0 h
 
-  no_bad_link : ((j : ℕ) → j < l.links → link_good b l.nodes s (link_place l j) ≡ true) → bad_link b l s ≡ Nothing
+  no_bad_link : ((j : ℕ) → j < l.links → link_good b l.nodes s (link_place l j) ≡ true) → bad_link b l s ≡ None
   unfolding bad_link link_place
   no_bad_link h = all_pass (link_good b l.nodes s) l.stride l.links l.link0 h
 
-  no_bad_ends : ((j : ℕ) → j < l.links → ends_good l s (link_place l j) ≡ true) → bad_ends l s ≡ Nothing
+  no_bad_ends : ((j : ℕ) → j < l.links → ends_good l s (link_place l j) ≡ true) → bad_ends l s ≡ None
   unfolding bad_ends link_place
   no_bad_ends h = all_pass (ends_good l s) l.stride l.links l.link0 h
 
@@ -110,7 +108,7 @@ module _ (s : List ℕ) (l : Layout) where
   unknowns_same = sym (serving_same l.nodes)
 
 module _ (b : Bounds) (s : List ℕ) where
-  accepted_here : Accepted b s (with_unknowns s (layout_of s)) → read_with b s ≡ Good (with_unknowns s (layout_of s))
+  accepted_here : Accepted b s (with_unknowns s (layout_of s)) → read_with b s ≡ Ok (with_unknowns s (layout_of s))
   unfolding end_of with_unknowns link_place
   accepted_here a =
       let l : Layout = layout_of s in
@@ -118,41 +116,41 @@ module _ (b : Bounds) (s : List ℕ) where
       ∙ right_counts b l s a.some a.few_nodes a.few_links
       ∙ checked_good b l s (field-link b l s a.options (fine_where b l s a.pressures) (no_bad_node b s l a.each_node) ∙ no_bad_link b s l a.each_link) (no_bad_ends b s l (λ j h. sym (ends_same s l (link_place l j)) ∙ a.each_ends j h))
 
-  pub accepted : (l : Layout) → Accepted b s l → read_with b s ≡ Good l
-  accepted l a = subst (λ (k : Layout). Accepted b s k → read_with b s ≡ Good k) (sym a.laid) accepted_here a
+  pub accepted : (l : Layout) → Accepted b s l → read_with b s ≡ Ok l
+  accepted l a = subst (λ (k : Layout). Accepted b s k → read_with b s ≡ Ok k) (sym a.laid) accepted_here a
 
 -- ---- and back: what a reading of Good says of each search
 
-pub good_checked : (b : Bounds) (l k : Layout) (s : List ℕ) → checked b l s ≡ Good k → (bad_field b l s ≡ Nothing) × (bad_ends l s ≡ Nothing) × (with_unknowns s l ≡ k)
+pub good_checked : (b : Bounds) (l k : Layout) (s : List ℕ) → checked b l s ≡ Ok k → (bad_field b l s ≡ None) × (bad_ends l s ≡ None) × (with_unknowns s l ≡ k)
 unfolding checked
 good_checked b l k s h = go (bad_field b l s) refl (bad_ends l s) refl h
   where
-    go : (f : Found) → bad_field b l s ≡ f → (e : Found) → bad_ends l s ≡ e → unless f Field (unless e Ends (Good (with_unknowns s l))) ≡ Good k → (bad_field b l s ≡ Nothing) × (bad_ends l s ≡ Nothing) × (with_unknowns s l ≡ k)
-    go (At p) pf e pe q = absurd (let z : ◌≡◌ {A = ℕ} 0 1 = cc in omega arith)
-    go Nothing pf (At p) pe q = absurd (let z : ◌≡◌ {A = ℕ} 0 1 = cc in omega arith)
-    go Nothing pf Nothing pe q = let same : with_unknowns s l ≡ k = cc in (pf, pe, same)
+    go : (f : Option ℕ) → bad_field b l s ≡ f → (e : Option ℕ) → bad_ends l s ≡ e → unless f Field (unless e Ends (Ok (with_unknowns s l))) ≡ Ok k → (bad_field b l s ≡ None) × (bad_ends l s ≡ None) × (with_unknowns s l ≡ k)
+    go (Some p) pf e pe q = absurd (let z : ◌≡◌ {A = ℕ} 0 1 = cc in omega arith)
+    go None pf (Some p) pe q = absurd (let z : ◌≡◌ {A = ℕ} 0 1 = cc in omega arith)
+    go None pf None pe q = let same : with_unknowns s l ≡ k = cc in (pf, pe, same)
 
-pub good_counts : (b : Bounds) (l k : Layout) (s : List ℕ) → after_scan b l s ≡ Good k → (1 ≤ l.nodes) × (l.nodes ≤ b.nodes) × (l.links ≤ b.links) × (checked b l s ≡ Good k)
+pub good_counts : (b : Bounds) (l k : Layout) (s : List ℕ) → after_scan b l s ≡ Ok k → (1 ≤ l.nodes) × (l.nodes ≤ b.nodes) × (l.links ≤ b.links) × (checked b l s ≡ Ok k)
 unfolding after_scan
 good_counts b l k s h = go (leb 1 l.nodes) refl (leb l.nodes b.nodes) refl (leb l.links b.links) refl h
   where
-    go : (x : Bool) → leb 1 l.nodes ≡ x → (y : Bool) → leb l.nodes b.nodes ≡ y → (z : Bool) → leb l.links b.links ≡ z → cond (x && y) (cond z (checked b l s) (Refused LinkCount)) (Refused NodeCount) ≡ Good k → (1 ≤ l.nodes) × (l.nodes ≤ b.nodes) × (l.links ≤ b.links) × (checked b l s ≡ Good k)
+    go : (x : Bool) → leb 1 l.nodes ≡ x → (y : Bool) → leb l.nodes b.nodes ≡ y → (z : Bool) → leb l.links b.links ≡ z → cond (x && y) (cond z (checked b l s) (Err LinkCount)) (Err NodeCount) ≡ Ok k → (1 ≤ l.nodes) × (l.nodes ≤ b.nodes) × (l.links ≤ b.links) × (checked b l s ≡ Ok k)
     go false px y py z pz q = absurd (let w : ◌≡◌ {A = ℕ} 0 1 = cc in omega arith)
     go true px false py z pz q = absurd (let w : ◌≡◌ {A = ℕ} 0 1 = cc in omega arith)
     go true px true py false pz q = absurd (let w : ◌≡◌ {A = ℕ} 0 1 = cc in omega arith)
     go true px true py true pz q = (leb-true 1 l.nodes px, leb-true l.nodes b.nodes py, leb-true l.links b.links pz, q)
 
-pub good_laid : (b : Bounds) (s : List ℕ) (k : Layout) → read_with b s ≡ Good k → (has_options s ≡ true) × (end_of s ≡ length s) × (after_scan b (layout_of s) s ≡ Good k)
+pub good_laid : (b : Bounds) (s : List ℕ) (k : Layout) → read_with b s ≡ Ok k → (has_options s ≡ true) × (end_of s ≡ length s) × (after_scan b (layout_of s) s ≡ Ok k)
 unfolding read_with
 good_laid b s k h = go (has_options s) refl (eqb (end_of s) (length s)) refl h
   where
-    go : (x : Bool) → has_options s ≡ x → (y : Bool) → eqb (end_of s) (length s) ≡ y → cond x (cond y (after_scan b (layout_of s) s) (Refused (Unreadable (end_of s)))) (Refused (Unreadable 0)) ≡ Good k → (has_options s ≡ true) × (end_of s ≡ length s) × (after_scan b (layout_of s) s ≡ Good k)
+    go : (x : Bool) → has_options s ≡ x → (y : Bool) → eqb (end_of s) (length s) ≡ y → cond x (cond y (after_scan b (layout_of s) s) (Err (Unreadable (end_of s)))) (Err (Unreadable 0)) ≡ Ok k → (has_options s ≡ true) × (end_of s ≡ length s) × (after_scan b (layout_of s) s ≡ Ok k)
     go false px y py q = absurd (let w : ◌≡◌ {A = ℕ} 0 1 = cc in omega arith)
     go true px false py q = absurd (let w : ◌≡◌ {A = ℕ} 0 1 = cc in omega arith)
     go true px true py q = (px, eqb-true (end_of s) (length s) py, q)
 
 module _ (b : Bounds) (s : List ℕ) where
-  built : has_options s ≡ true → end_of s ≡ length s → (1 ≤ (layout_of s).nodes) × ((layout_of s).nodes ≤ b.nodes) × ((layout_of s).links ≤ b.links) → bad_field b (layout_of s) s ≡ Nothing → bad_ends (layout_of s) s ≡ Nothing
+  built : has_options s ≡ true → end_of s ≡ length s → (1 ≤ (layout_of s).nodes) × ((layout_of s).nodes ≤ b.nodes) × ((layout_of s).links ≤ b.links) → bad_field b (layout_of s) s ≡ None → bad_ends (layout_of s) s ≡ None
       → Accepted b s (with_unknowns s (layout_of s))
   unfolding end_of with_unknowns link_place
   built first end counts field ends =
@@ -172,7 +170,7 @@ module _ (b : Bounds) (s : List ℕ) where
         each_ends = λ j h. ends_same s l (link_place l j) ∙ each_ends b l s ends j h;
       }
 
-  pub accepts : (l : Layout) → read_with b s ≡ Good l → Accepted b s l
+  pub accepts : (l : Layout) → read_with b s ≡ Ok l → Accepted b s l
   accepts l h =
       let r = good_laid b s l h in
       let c = good_counts b (layout_of s) l s r.2 in

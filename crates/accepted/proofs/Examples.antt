@@ -17,8 +17,8 @@ use Rattle.nodes.specs.Nodes.{in_service, serving}
 use Rattle.layout.specs.Places.{plain, planned, link_place}
 use Rattle.sheet.specs.Read.{first_bad, bad_ends, bad_link, bad_node, pressures_fine, bad_field, with_unknowns, checked, after_scan, read_with, read_of}
 use Rattle.fields.specs.declared.fields.Bounds.{Bounds}
-use Rattle.sheet.specs.declared.reading.Reading.TheVariants.{Good, Refused}
 use Rattle.refusals.specs.declared.refusals.Refusal.TheVariants.{Unreadable, NodeCount, LinkCount, Field, Ends}
+use Rattle.std.specs.Prelude.{Err, Ok}
 
 -- ---- sheets
 
@@ -42,7 +42,7 @@ link kind start end = 76 ∷ 75 ∷ kind ∷ 0 ∷ 2 ∷ start ∷ 0 ∷ end ∷
 document : List ℕ
 document = op 40 ++ (reservoir ++ junction)
 
-read_document : read_of document ≡ Good (plain 2 0 1)
+read_document : read_of document ≡ Ok (plain 2 0 1)
 unfolding document op reservoir junction zeros read_of read_with has_options has_pressures nodes_at nodes_of links_of layout_of end_of link_place records_from readable after_scan with_unknowns serving in_service checked bad_field pressures_fine bad_node bad_link bad_ends first_bad base_bounds options_good node_good all_within within pair_at little_endian from_bytes abs_of lt le eq of_bits of_fields odd count_trailing_zeros
 read_document = refl
 
@@ -51,32 +51,32 @@ pd : ℕ → ℕ → List ℕ
 pd minimum required = 80 ∷ 68 ∷ (zeros 6 ++ (minimum ∷ 64 ∷ (zeros 6 ++ (required ∷ 64 ∷ []))))
 
 -- with a PD; one whose numbers are equal
-read_pressures : (read_of (op 40 ++ (pd 52 62 ++ (reservoir ++ junction))) ≡ Good (planned true 2 0 1)) × (read_of (op 40 ++ (pd 52 52 ++ (reservoir ++ junction))) ≡ Good (planned true 2 0 1))
+read_pressures : (read_of (op 40 ++ (pd 52 62 ++ (reservoir ++ junction))) ≡ Ok (planned true 2 0 1)) × (read_of (op 40 ++ (pd 52 52 ++ (reservoir ++ junction))) ≡ Ok (planned true 2 0 1))
 unfolding pd op reservoir junction zeros read_of read_with has_options has_pressures nodes_at nodes_of links_of layout_of end_of link_place records_from readable after_scan with_unknowns serving in_service checked bad_field pressures_fine bad_node bad_link bad_ends first_bad base_bounds options_good pressures_good node_good all_within within pair_at little_endian from_bytes abs_of lt le eq of_bits of_fields odd count_trailing_zeros
 read_pressures = (refl, refl)
 
 -- required below minimum; then the OP's fault is told before the PD's
-pressures_out : (read_of (op 40 ++ (pd 62 52 ++ (reservoir ++ junction))) ≡ Refused (Field 29)) × (read_of (op 201 ++ (pd 62 52 ++ reservoir)) ≡ Refused (Field 0))
+pressures_out : (read_of (op 40 ++ (pd 62 52 ++ (reservoir ++ junction))) ≡ Err (Field 29)) × (read_of (op 201 ++ (pd 62 52 ++ reservoir)) ≡ Err (Field 0))
 unfolding pd op reservoir junction zeros read_of read_with has_options has_pressures nodes_at nodes_of links_of layout_of end_of link_place records_from readable after_scan with_unknowns serving in_service checked bad_field pressures_fine bad_node bad_link bad_ends first_bad base_bounds options_good pressures_good node_good all_within within pair_at little_endian from_bytes abs_of lt le eq of_bits of_fields odd count_trailing_zeros
 pressures_out = (refl, refl)
 
 -- cut short; twice; behind a node
-pressures_unreadable : (read_of (op 40 ++ (80 ∷ 68 ∷ zeros 15)) ≡ Refused (Unreadable 29)) × (read_of (op 40 ++ (pd 52 62 ++ (pd 52 62 ++ reservoir))) ≡ Refused (Unreadable 47)) × (read_of (op 40 ++ (reservoir ++ (pd 52 62 ++ junction))) ≡ Refused (Unreadable 74))
+pressures_unreadable : (read_of (op 40 ++ (80 ∷ 68 ∷ zeros 15)) ≡ Err (Unreadable 29)) × (read_of (op 40 ++ (pd 52 62 ++ (pd 52 62 ++ reservoir))) ≡ Err (Unreadable 47)) × (read_of (op 40 ++ (reservoir ++ (pd 52 62 ++ junction))) ≡ Err (Unreadable 74))
 unfolding pd op reservoir junction zeros read_of read_with has_options has_pressures nodes_at nodes_of links_of layout_of end_of link_place records_from readable
 pressures_unreadable = (refl, refl, refl)
 
 -- nothing at all; a cut record; an unknown mark; no node
-unreadable : (read_of [] ≡ Refused (Unreadable 0)) × (read_of (op 40 ++ (78 ∷ 68 ∷ [])) ≡ Refused (Unreadable 29)) × (read_of (op 40 ++ (reservoir ++ (88 ∷ zeros 60))) ≡ Refused (Unreadable 74)) × (read_of (op 40) ≡ Refused NodeCount)
+unreadable : (read_of [] ≡ Err (Unreadable 0)) × (read_of (op 40 ++ (78 ∷ 68 ∷ [])) ≡ Err (Unreadable 29)) × (read_of (op 40 ++ (reservoir ++ (88 ∷ zeros 60))) ≡ Err (Unreadable 74)) × (read_of (op 40) ≡ Err NodeCount)
 unfolding op reservoir zeros read_of read_with has_options has_pressures nodes_at nodes_of links_of layout_of end_of link_place records_from readable after_scan base_bounds
 unreadable = (refl, refl, refl, refl)
 
 -- 201 trials; a link to a node that is not there
-out_of_bounds : (read_of (op 201 ++ reservoir) ≡ Refused (Field 0)) × (read_of (document ++ link 0 0 2) ≡ Refused (Field 119))
+out_of_bounds : (read_of (op 201 ++ reservoir) ≡ Err (Field 0)) × (read_of (document ++ link 0 0 2) ≡ Err (Field 119))
 unfolding document op reservoir junction link zeros read_of read_with has_options has_pressures nodes_at nodes_of links_of layout_of end_of link_place records_from readable after_scan with_unknowns serving in_service checked bad_field pressures_fine bad_node bad_link first_bad base_bounds options_good node_good link_good link_codes link_numbers all_within within pair_at little_endian from_bytes abs_of lt le eq of_bits of_fields odd count_trailing_zeros
 out_of_bounds = (refl, refl)
 
 -- a pipe from a node to itself; a PRV that ends at the reservoir; one that ends at the junction is read
-ends : (read_of (document ++ link 0 1 1) ≡ Refused (Ends 119)) × (read_of (document ++ link 1 1 0) ≡ Refused (Ends 119)) × (read_of (document ++ link 1 0 1) ≡ Good (plain 2 1 1))
+ends : (read_of (document ++ link 0 1 1) ≡ Err (Ends 119)) × (read_of (document ++ link 1 1 0) ≡ Err (Ends 119)) × (read_of (document ++ link 1 0 1) ≡ Ok (plain 2 1 1))
 unfolding document op reservoir junction link zeros read_of read_with has_options has_pressures nodes_at nodes_of links_of layout_of end_of link_place records_from readable after_scan with_unknowns serving in_service checked bad_field pressures_fine bad_node bad_link bad_ends first_bad base_bounds options_good node_good link_good link_codes link_numbers ends_good all_within within pair_at little_endian from_bytes abs_of lt le eq of_bits of_fields odd count_trailing_zeros
 ends = (refl, refl, refl)
 
@@ -84,6 +84,6 @@ ends = (refl, refl, refl)
 few : Bounds
 few = record { nodes = 64; links = 0; trials = 200; unit = 10; magnitude = base_bounds.magnitude; diameter = base_bounds.diameter }
 
-too_many_links : read_with few (document ++ link 0 0 1) ≡ Refused LinkCount
+too_many_links : read_with few (document ++ link 0 0 1) ≡ Err LinkCount
 unfolding few document op reservoir junction link zeros read_with has_options has_pressures nodes_at nodes_of links_of layout_of end_of link_place records_from readable after_scan
 too_many_links = refl

@@ -1,17 +1,13 @@
 -- What an accepted sheet is, field by field, and the one cause of each number. Definitions only.
-use Rattle.std.specs.Prelude.{◌≡◌, Bool, true, false, cond, ◌&&◌, List, ℕ, ◌≤◌, ◌<◌, eqb, leb, length}
+use Rattle.std.specs.Prelude.{◌≡◌, Bool, true, false, cond, ◌&&◌, List, ℕ, ◌≤◌, ◌<◌, eqb, leb, length, Err, None, Ok, Option, Some}
 use Rattle.layout.specs.Places.{node_place, link_place}
 use Rattle.layout.specs.declared.places.Layout.{Layout}
 use Rattle.sheet.specs.Scan.{has_options, layout_of, end_of}
 use Rattle.fields.specs.Fields.{options_good, pressures_good, node_good, link_good}
 use Rattle.ends.specs.Ends.{ends_good}
-use Rattle.sheet.specs.Read.{bad_field, bad_ends, with_unknowns}
+use Rattle.sheet.specs.Read.{bad_field, bad_ends, with_unknowns, Reading}
 use Rattle.fields.specs.declared.fields.Bounds.{Bounds}
 use Rattle.refusals.specs.Refusals.{number_of}
-use Rattle.found.specs.declared.Found.{Found}
-use Rattle.found.specs.declared.Found.TheVariants.{At, Nothing}
-use Rattle.sheet.specs.declared.reading.Reading.{Reading}
-use Rattle.sheet.specs.declared.reading.Reading.TheVariants.{Good, Refused}
 
 -- a sheet laid out so: one OP, a PD or none, then ND and LK as they were counted, and nothing after, so many as the bounds allow, every record's fields good, every link's ends good
 pub record Accepted (b : Bounds) (s : List ℕ) (l : Layout) : Type 0 where
@@ -29,9 +25,9 @@ pub record Accepted (b : Bounds) (s : List ℕ) (l : Layout) : Type 0 where
 
 -- ---- the cause of each number
 
-abbrev pub none : Found → Bool
-none (At at) = false
-none Nothing = true
+abbrev pub none : Option ℕ → Bool
+none (Some at) = false
+none None = true
 
 -- 1 to 4 in their order, each where those before it have no cause; 0 where none has
 unfoldable pub cause_of : Bounds → List ℕ → ℕ
@@ -45,5 +41,5 @@ cause_of b s =
 
 -- the number of a reading: 0 where the sheet is accepted
 abbrev pub number_in : Reading → ℕ
-number_in (Good l) = 0
-number_in (Refused r) = number_of r
+number_in (Ok l) = 0
+number_in (Err r) = number_of r

@@ -6,24 +6,23 @@ use native.Mathlib.Omega.{arith}
 use borrow.Author.Tests.{ltb-false}
 use lib.Dec.{ltb}
 use lib.ListN.{length}
-use Rattle.found.specs.declared.Found.{Found}
-use Rattle.found.specs.declared.Found.TheVariants.{At, Nothing}
 use Rattle.layout.specs.declared.places.Layout.{Layout}
 use Rattle.refusals.specs.Refusals.{number_of, place_of}
 use Rattle.refusals.specs.declared.refusals.Refusal.{Refusal}
 use Rattle.entries.specs.Entries.{none}
 use Rattle.answers.specs.Answers.{Lent, too_short, failed_of, Enough}
 use Rattle.answers.specs.declared.Answer.{Answer}
+use Rattle.std.specs.Prelude.{None, Option, Some}
 
-passed : (a b x : ℕ) (f : Found) → cond (ltb a b) (At x) f ≡ Nothing → (b ≤ a) × (f ≡ Nothing)
+passed : (a b x : ℕ) (f : Option ℕ) → cond (ltb a b) (Some x) f ≡ None → (b ≤ a) × (f ≡ None)
 passed a b x f e = go (ltb a b) refl e
   where
-    go : (t : Bool) → ltb a b ≡ t → cond t (At x) f ≡ Nothing → (b ≤ a) × (f ≡ Nothing)
+    go : (t : Bool) → ltb a b ≡ t → cond t (Some x) f ≡ None → (b ≤ a) × (f ≡ None)
     go true p e = absurd (let z : ◌≡◌ {A = ℕ} 0 1 = cc in let y : ⊥ = omega arith in y)
     go false p e = (ltb-false a b p, e)
 
 pub enough : (l : Layout) (trials : ℕ) (b : Lent)
-    → too_short l trials (length b.heads) (length b.demands) (length b.flows) (length b.statuses) (length b.entries) (length b.scratch) ≡ Nothing
+    → too_short l trials (length b.heads) (length b.demands) (length b.flows) (length b.statuses) (length b.entries) (length b.scratch) ≡ None
     → Enough l trials b
 unfolding too_short
 enough l trials b e =

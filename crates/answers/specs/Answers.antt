@@ -1,7 +1,5 @@
 -- The answer and the six lent buffers (document 01, "What the desk is told"), and refusals before any trial. Definitions only.
-use Rattle.std.specs.Prelude.{ℕ, ◌*◌, ◌≤◌, List, cond, ltb, length, Float}
-use Rattle.found.specs.declared.Found.{Found}
-use Rattle.found.specs.declared.Found.TheVariants.{At, Nothing}
+use Rattle.std.specs.Prelude.{ℕ, ◌*◌, ◌≤◌, List, cond, ltb, length, Float, None, Option, Some}
 use Rattle.layout.specs.declared.places.Layout.{Layout}
 use Rattle.constants.specs.Constants as constant
 use Rattle.entries.specs.Entries.{none}
@@ -26,14 +24,14 @@ pub record Solved : Type 0 where
   pub lent : Lent
 
 -- refusal 5: the lowest place of a buffer that is too short, by the buffers' lengths
-unfoldable pub too_short : Layout → ℕ → ℕ → ℕ → ℕ → ℕ → ℕ → ℕ → Found
+unfoldable pub too_short : Layout → ℕ → ℕ → ℕ → ℕ → ℕ → ℕ → ℕ → Option ℕ
 too_short l trials heads demands flows statuses entries scratch =
-    cond (ltb heads l.nodes) (At 0)
-    (cond (ltb demands l.nodes) (At 1)
-    (cond (ltb flows l.links) (At 2)
-    (cond (ltb statuses l.links) (At 3)
-    (cond (ltb entries (4 * trials)) (At 4)
-    (cond (ltb scratch 4096) (At 5) Nothing)))))
+    cond (ltb heads l.nodes) (Some 0)
+    (cond (ltb demands l.nodes) (Some 1)
+    (cond (ltb flows l.links) (Some 2)
+    (cond (ltb statuses l.links) (Some 3)
+    (cond (ltb entries (4 * trials)) (Some 4)
+    (cond (ltb scratch 4096) (Some 5) None)))))
 
 -- an answer without results: a number, its place and the counts, with totals of +0.0
 unfoldable pub failed_of : ℕ → ℕ → Tally → Answer

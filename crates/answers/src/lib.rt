@@ -7,7 +7,6 @@ ghost use Rattle.entries.specs.Entries.{none};
 ghost use Rattle.answers.specs.Answers.{too_short, failed_of};
 
 use entries::Tally;
-use found::Found;
 use layout::Layout;
 use refusals::Refusal;
 
@@ -33,29 +32,29 @@ pub fn too_short(
     statuses: usize,
     entries: usize,
     scratch: usize,
-) -> Found
+) -> Option<usize>
     requires { trials ≤ 65535 }
     ensures { result ≡ too_short l trials heads demands flows statuses entries scratch }
 {
     if heads < l.nodes {
-        return Found::At(0);
+        return Some(0);
     }
     if demands < l.nodes {
-        return Found::At(1);
+        return Some(1);
     }
     if flows < l.links {
-        return Found::At(2);
+        return Some(2);
     }
     if statuses < l.links {
-        return Found::At(3);
+        return Some(3);
     }
     if entries < 4 * trials {
-        return Found::At(4);
+        return Some(4);
     }
     if scratch < 4096 {
-        return Found::At(5);
+        return Some(5);
     }
-    Found::Nothing
+    None
 }
 
 // An answer without results.

@@ -12,20 +12,19 @@ use lib.Dec.{eqb}
 use lib.ListN.{length, drop}
 use lib.Ieee.{Float}
 use Rattle.layout.specs.declared.places.Layout.{Layout}
-use Rattle.sheet.specs.Read.{read_of}
-use Rattle.sheet.specs.declared.reading.Reading.{Reading}
-use Rattle.sheet.specs.declared.reading.Reading.TheVariants.{Good, Refused}
+use Rattle.sheet.specs.Read.{read_of, Reading}
 use Rattle.solver.specs.Solve.{trials_of}
 use Rattle.row_sheet.specs.RowSheet.{row_sheet}
-use Rattle.rowwise.specs.declared.single.Judging.{Judging}
 use Rattle.rowwise.specs.declared.admitting.Called.{Called}
 use Rattle.rowwise.specs.declared.admitting.Lengths.{Lengths}
 use Rattle.rowwise.specs.Rooms.{Lends, lends, lengths_of, row_in, row_put, room_of, room_put, Fits}
+use Rattle.tolerance.specs.declared.Limits.{Limits}
 use Rattle.rowwise.specs.Evening.{width_of, row_of, row_done, rows_done, admitted_of, after_admitted, after_read, evening_of}
 use Rattle.rowwise.proofs.Laws.{row_end, fits_fewer, fits_admitted, same_lengths}
 use Rattle.apart.specs.Apart.{Shown, shown, EachRow, Later, PastRows, RefusedCall}
 use Rattle.apart.proofs.Parts.{put_back, put_same, put_before, put_after, put_length, in_length}
 use Rattle.apart.proofs.Solves.{Kept, Long, row_long, row_bare, refit}
+use Rattle.std.specs.Prelude.{Err, Ok, Option}
 
 -- ---- one row put back
 
@@ -120,7 +119,7 @@ module _ (l : Layout) (trials width : ℕ) where
 
 -- ---- the rows
 
-module _ (j : Judging) (s : List ℕ) (l : Layout) (table : List Float) (rows : ℕ) (b : Lends) (fits : Fits l (trials_of s) (width_of j) rows (lengths_of table b)) where
+module _ (j : Option Limits) (s : List ℕ) (l : Layout) (table : List Float) (rows : ℕ) (b : Lends) (fits : Fits l (trials_of s) (width_of j) rows (lengths_of table b)) where
   abbrev trials : ℕ
   trials = trials_of s
 
@@ -217,7 +216,7 @@ module _ (j : Judging) (s : List ℕ) (l : Layout) (table : List Float) (rows : 
 -- ---- the whole call
 
 -- what a call that is not refused comes to
-went : (j : Judging) (s : List ℕ) (rows : ℕ) (table : List Float) (b : Lends) (l : Layout) → read_of s ≡ Good l → (evening_of j s rows table b).called.number ≡ 0
+went : (j : Option Limits) (s : List ℕ) (rows : ℕ) (table : List Float) (b : Lends) (l : Layout) → read_of s ≡ Ok l → (evening_of j s rows table b).called.number ≡ 0
     → ((evening_of j s rows table b).lends ≡ rows_done j s l table rows b) × Fits l (trials_of s) (width_of j) rows (lengths_of table b)
 unfolding evening_of after_read after_admitted
 went j s rows table b l e h =
@@ -233,10 +232,10 @@ each_row j s rows table b l r e h g =
 pub past_rows : PastRows
 past_rows j s rows table b l e h = let w = went j s rows table b l e h in rw w.0 (over j s l table rows b w.1 rows (omega arith))
 
-call_refused : (j : Judging) (s : List ℕ) (rows : ℕ) (table : List Float) (b : Lends) (r : Reading) → ((after_read j s rows table b r).called.number ≡ 0 → ⊥) → (after_read j s rows table b r).lends ≡ b
+call_refused : (j : Option Limits) (s : List ℕ) (rows : ℕ) (table : List Float) (b : Lends) (r : Reading) → ((after_read j s rows table b r).called.number ≡ 0 → ⊥) → (after_read j s rows table b r).lends ≡ b
 unfolding after_read after_admitted
-call_refused j s rows table b (Refused r) h = refl
-call_refused j s rows table b (Good l) h = rw (ne_eqb (admitted_of l (trials_of s) (width_of j) rows (lengths_of table b)).number 0 h)
+call_refused j s rows table b (Err r) h = refl
+call_refused j s rows table b (Ok l) h = rw (ne_eqb (admitted_of l (trials_of s) (width_of j) rows (lengths_of table b)).number 0 h)
 
 pub refused_call : RefusedCall
 unfolding evening_of

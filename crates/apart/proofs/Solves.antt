@@ -7,11 +7,7 @@ use lib.ListN.{length, take, drop, set, length-append, length-drop, length-set}
 use lib.Seq.{length-take-le}
 use lib.Ieee.{Float}
 use Rattle.layout.specs.declared.places.Layout.{Layout}
-use Rattle.found.specs.declared.Found.{Found}
-use Rattle.found.specs.declared.Found.TheVariants.{At, Nothing}
-use Rattle.sheet.specs.Read.{read_of}
-use Rattle.sheet.specs.declared.reading.Reading.{Reading}
-use Rattle.sheet.specs.declared.reading.Reading.TheVariants.{Good, Refused}
+use Rattle.sheet.specs.Read.{read_of, Reading}
 use Rattle.refusals.specs.Refusals.{number_of, place_of}
 use Rattle.tolerance.specs.declared.Limits.{Limits}
 use Rattle.drawing.specs.Drawing.{counting}
@@ -41,11 +37,10 @@ use Rattle.promises.specs.Solves.{Runs, short_in}
 use Rattle.promises.proofs.Trials.{solve_last_state}
 use Rattle.promises.proofs.Bound.{room_after, start_room}
 use Rattle.promises.proofs.Solves.{ways, tells}
-use Rattle.rowwise.specs.declared.single.Judging.{Judging}
-use Rattle.rowwise.specs.declared.single.Judging.TheVariants.{Off, By}
 use Rattle.rowwise.specs.Rooms.{Lends, lends, lent_of}
 use Rattle.rowwise.specs.Evening.{counts_put, verdict_put, totals_put, row_of}
 use Rattle.apart.specs.Apart.{Shown, shown, Told, ToldBy}
+use Rattle.std.specs.Prelude.{Err, None, Ok, Option, Some}
 
 -- ---- lengths
 
@@ -92,11 +87,11 @@ refused_kept : (number place : ℕ) (x : Lent) → Kept x (refused_of number pla
 unfolding refused_of
 refused_kept number place x = record { heads = refl; demands = refl; flows = refl; statuses = refl; entries = refl; scratch = refl }
 
-run_room : (s : List ℕ) (l : Layout) → read_of s ≡ Good l → Room l (run_in s l).state
+run_room : (s : List ℕ) (l : Layout) → read_of s ≡ Ok l → Room l (run_in s l).state
 unfolding point_in start_point
 run_room s l e = rw (solve_last_state s l) (room_after s l (network_of s l e).unknowns (length (run_in s l).entries) (start_point s l) (start_room s l e))
 
-enough_in : (s : List ℕ) (l : Layout) (x : Lent) → short_in s l x ≡ Nothing → Enough l (trials_of s) x
+enough_in : (s : List ℕ) (l : Layout) (x : Lent) → short_in s l x ≡ None → Enough l (trials_of s) x
 unfolding short_in
 enough_in s l x e = enough l (trials_of s) x e
 
@@ -126,15 +121,15 @@ module _ (s : List ℕ) (x : Lent) (z : List Float) where
   told_bare l m t tally bytes (Strayed p) = refl
   told_bare l m t tally bytes Limit = refl
 
-  short_bare : (l : Layout) (f : Found) → bare (after_short repair_of s l x f) ≡ bare (after_short repair_of s l (with_scratch z x) f)
+  short_bare : (l : Layout) (f : Option ℕ) → bare (after_short repair_of s l x f) ≡ bare (after_short repair_of s l (with_scratch z x) f)
   unfolding after_short refused_of solved_with
-  short_bare l (At place) = refl
-  short_bare l Nothing = let f = run_of repair_of s l x.entries in told_bare l (trials_of s) f.state f.ran.tally f.bytes f.ran.ended
+  short_bare l (Some place) = refl
+  short_bare l None = let f = run_of repair_of s l x.entries in told_bare l (trials_of s) f.state f.ran.tally f.bytes f.ran.ended
 
   read_bare : (r : Reading) → length z ≡ length x.scratch → bare (after_read repair_of s x r) ≡ bare (after_read repair_of s (with_scratch z x) r)
   unfolding after_read refused_of
-  read_bare (Refused r) e = refl
-  read_bare (Good l) e =
+  read_bare (Err r) e = refl
+  read_bare (Ok l) e =
       rw e
       (short_bare l
       (too_short l (trials_of s) (length x.heads) (length x.demands) (length x.flows) (length x.statuses) (length x.entries) (length x.scratch)))
@@ -145,8 +140,8 @@ module _ (s : List ℕ) (x : Lent) (z : List Float) where
 
 verdict_bare : (s : List ℕ) (limits : Limits) (o : Solved) (r : Reading) → verdict_by s limits o r ≡ verdict_by s limits (bare o) r
 unfolding verdict_by
-verdict_bare s limits o (Refused r) = refl
-verdict_bare s limits o (Good l) = refl
+verdict_bare s limits o (Err r) = refl
+verdict_bare s limits o (Ok l) = refl
 
 -- ---- a row
 
@@ -178,10 +173,10 @@ judged_row w o v =
       totals = totals_put o.answer v.totals;
     }
 
-pub row_bare : (j : Judging) (s : List ℕ) (v : Shown) (x z : List Float) → length z ≡ length x → shown (row_of j s (refit x v)) ≡ shown (row_of j s (refit z v))
+pub row_bare : (j : Option Limits) (s : List ℕ) (v : Shown) (x z : List Float) → length z ≡ length x → shown (row_of j s (refit x v)) ≡ shown (row_of j s (refit z v))
 unfolding shown row_of sale_of verdict_of
-row_bare Off s v x z e = ap (λ (o : Solved). solved_row o v) (solve_bare s (lent_of (refit x v)) z e)
-row_bare (By limits) s v x z e =
+row_bare None s v x z e = ap (λ (o : Solved). solved_row o v) (solve_bare s (lent_of (refit x v)) z e)
+row_bare (Some limits) s v x z e =
     let o = solve_of s (lent_of (refit x v)) in
     let o' = solve_of s (lent_of (refit z v)) in
     let p = solve_bare s (lent_of (refit x v)) z e in
@@ -189,15 +184,15 @@ row_bare (By limits) s v x z e =
     verdict_bare s limits o (read_of s) ∙ ap (λ (k : Solved). verdict_by s limits k (read_of s)) p ∙ sym (verdict_bare s limits o' (read_of s)) in
     ap (λ (w : Verdict). judged_row w (bare o) v) q ∙ ap (λ (k : Solved). judged_row (verdict_by s limits o' (read_of s)) k v) p
 
-counts_long : (j : Judging) (s : List ℕ) (b : Lends) → (length (row_of j s b).counts ≡ length b.counts) × (length (row_of j s b).totals ≡ length b.totals)
+counts_long : (j : Option Limits) (s : List ℕ) (b : Lends) → (length (row_of j s b).counts ≡ length b.counts) × (length (row_of j s b).totals ≡ length b.totals)
 unfolding row_of counts_put verdict_put totals_put
-counts_long Off s b = (simp length-set, simp length-set)
-counts_long (By limits) s b = (simp length-set, simp length-set)
+counts_long None s b = (simp length-set, simp length-set)
+counts_long (Some limits) s b = (simp length-set, simp length-set)
 
-row_lent : (j : Judging) (s : List ℕ) (b : Lends) → Kept (lent_of b) (lent_of (row_of j s b))
+row_lent : (j : Option Limits) (s : List ℕ) (b : Lends) → Kept (lent_of b) (lent_of (row_of j s b))
 unfolding row_of sale_of
-row_lent Off s b = let k = solve_kept s (lent_of b) in record { heads = k.heads; demands = k.demands; flows = k.flows; statuses = k.statuses; entries = k.entries; scratch = k.scratch }
-row_lent (By limits) s b = let k = solve_kept s (lent_of b) in record { heads = k.heads; demands = k.demands; flows = k.flows; statuses = k.statuses; entries = k.entries; scratch = k.scratch }
+row_lent None s b = let k = solve_kept s (lent_of b) in record { heads = k.heads; demands = k.demands; flows = k.flows; statuses = k.statuses; entries = k.entries; scratch = k.scratch }
+row_lent (Some limits) s b = let k = solve_kept s (lent_of b) in record { heads = k.heads; demands = k.demands; flows = k.flows; statuses = k.statuses; entries = k.entries; scratch = k.scratch }
 
 -- a row leaves every part as long as it was
 pub record Long (b c : Lends) : Type 0 where
@@ -205,7 +200,7 @@ pub record Long (b c : Lends) : Type 0 where
   pub counts : length c.counts ≡ length b.counts
   pub totals : length c.totals ≡ length b.totals
 
-pub row_long : (j : Judging) (s : List ℕ) (b : Lends) → Long b (row_of j s b)
+pub row_long : (j : Option Limits) (s : List ℕ) (b : Lends) → Long b (row_of j s b)
 row_long j s b = let c = counts_long j s b in record { lent = row_lent j s b; counts = c.0; totals = c.1 }
 
 -- ---- counts and totals

@@ -1,14 +1,11 @@
 -- What is promised of an evening: each row of it is a single solve. Definitions and statements only.
-use Rattle.std.specs.Prelude.{ℕ, ◌*◌, ◌<◌, ◌≡◌, List, [], ◌∷◌, length, drop, Float}
+use Rattle.std.specs.Prelude.{ℕ, ◌*◌, ◌<◌, ◌≡◌, List, [], ◌∷◌, length, drop, Float, None, Ok, Option, Some}
 use Rattle.layout.specs.declared.places.Layout.{Layout}
 use Rattle.sheet.specs.Read.{read_of}
-use Rattle.sheet.specs.declared.reading.Reading.TheVariants.{Good}
 use Rattle.tolerance.specs.declared.Limits.{Limits}
 use Rattle.solver.specs.Solve.{trials_of, solve_of}
 use Rattle.sale.specs.Sale.{sale_of}
 use Rattle.row_sheet.specs.RowSheet.{row_sheet}
-use Rattle.rowwise.specs.declared.single.Judging.{Judging}
-use Rattle.rowwise.specs.declared.single.Judging.TheVariants.{Off, By}
 use Rattle.rowwise.specs.Rooms.{Lends, lent_of, room_of}
 use Rattle.rowwise.specs.Evening.{width_of, row_of, evening_of}
 
@@ -28,7 +25,7 @@ shown b = record { heads = b.heads; demands = b.demands; flows = b.flows; status
 -- of a call that is not refused: each row's room is what the single solve of the sheet with the row's demands leaves in that room, as it was before the call
 abbrev pub EachRow : Type 0
 EachRow =
-    (j : Judging) (s : List ℕ) (rows : ℕ) (table : List Float) (b : Lends) (l : Layout) (r : ℕ) → read_of s ≡ Good l → (evening_of j s rows table b).called.number ≡ 0 → r < rows
+    (j : Option Limits) (s : List ℕ) (rows : ℕ) (table : List Float) (b : Lends) (l : Layout) (r : ℕ) → read_of s ≡ Ok l → (evening_of j s rows table b).called.number ≡ 0 → r < rows
     → shown (room_of l (trials_of s) (width_of j) r (evening_of j s rows table b).lends) ≡ shown (row_of j (row_sheet s l table r) (room_of l (trials_of s) (width_of j) r b))
 
 -- its counts are then the single solve's number, place, trials, freed and grounded, its totals demand, supply and error; where it is judged, the verdict's number and place follow
@@ -36,15 +33,15 @@ abbrev pub Told : Type 0
 Told =
     (s : List ℕ) (b : Lends) → length b.counts ≡ 5 → length b.totals ≡ 3
     → let a = (solve_of s (lent_of b)).answer in
-    ((row_of Off s b).counts ≡ a.number ∷ a.place ∷ a.trials ∷ a.freed ∷ a.grounded ∷ []) × ((row_of Off s b).totals ≡ a.demand ∷ a.supply ∷ a.error ∷ [])
+    ((row_of None s b).counts ≡ a.number ∷ a.place ∷ a.trials ∷ a.freed ∷ a.grounded ∷ []) × ((row_of None s b).totals ≡ a.demand ∷ a.supply ∷ a.error ∷ [])
 
 abbrev pub ToldBy : Type 0
 ToldBy =
     (limits : Limits) (s : List ℕ) (b : Lends) → length b.counts ≡ 7 → length b.totals ≡ 3
     → let o = sale_of s limits (lent_of b) in
     let a = o.answer in
-    ((row_of (By limits) s b).counts ≡ a.number ∷ a.place ∷ a.trials ∷ a.freed ∷ a.grounded ∷ o.verdict.number ∷ o.verdict.place ∷ [])
-    × ((row_of (By limits) s b).totals ≡ a.demand ∷ a.supply ∷ a.error ∷ [])
+    ((row_of (Some limits) s b).counts ≡ a.number ∷ a.place ∷ a.trials ∷ a.freed ∷ a.grounded ∷ o.verdict.number ∷ o.verdict.place ∷ [])
+    × ((row_of (Some limits) s b).totals ≡ a.demand ∷ a.supply ∷ a.error ∷ [])
 
 -- entries past the rows' rooms stay, and every buffer is as long as it was
 pub record Later (l : Layout) (trials width rows : ℕ) (b c : Lends) : Type 0 where
@@ -58,10 +55,10 @@ pub record Later (l : Layout) (trials width rows : ℕ) (b c : Lends) : Type 0 w
 
 abbrev pub PastRows : Type 0
 PastRows =
-    (j : Judging) (s : List ℕ) (rows : ℕ) (table : List Float) (b : Lends) (l : Layout) → read_of s ≡ Good l → (evening_of j s rows table b).called.number ≡ 0
+    (j : Option Limits) (s : List ℕ) (rows : ℕ) (table : List Float) (b : Lends) (l : Layout) → read_of s ≡ Ok l → (evening_of j s rows table b).called.number ≡ 0
     → Later l (trials_of s) (width_of j) rows b (evening_of j s rows table b).lends
 
 -- a refused call changes nothing
 abbrev pub RefusedCall : Type 0
 RefusedCall =
-    (j : Judging) (s : List ℕ) (rows : ℕ) (table : List Float) (b : Lends) → ((evening_of j s rows table b).called.number ≡ 0 → ⊥) → (evening_of j s rows table b).lends ≡ b
+    (j : Option Limits) (s : List ℕ) (rows : ℕ) (table : List Float) (b : Lends) → ((evening_of j s rows table b).called.number ≡ 0 → ⊥) → (evening_of j s rows table b).lends ≡ b

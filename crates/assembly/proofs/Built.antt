@@ -2,7 +2,7 @@
 use mathlib.Core.Path.{◌≡◌, refl, ap, ◌∙◌}
 use mathlib.Core.Bool.{Bool, true, false}
 use mathlib.Core.List.{List}
-use Prim.Native.Nat.{ℕ, ◌+◌, ◌≤◌, ◌<◌}
+use Prim.Native.Nat.{ℕ, ◌+◌, ◌≤◌}
 use native.Mathlib.Numerals.{add-one}
 use native.Mathlib.Omega.{arith}
 use lib.ListN.{length, get_or}
@@ -11,12 +11,11 @@ use Rattle.layout.specs.declared.places.Layout.{Layout}
 use Rattle.links.specs.Links.{link_of}
 use Rattle.constants.specs.Constants.{small_value}
 use Rattle.columns.specs.Columns.{cleared}
-use Rattle.numbering.specs.Numbering.{row_at}
+use Rattle.numbering.specs.Numbering.{row_at, Row}
 use Rattle.scatter.specs.Scatter.{on_diagonal, off_row}
 use Rattle.assembly.specs.Assembly.{System, system, Sized, View, link_added, with_links, demands_taken, right_of, ground_of, grounded_of, assemble_of}
 use Rattle.drawing.specs.Drawing.{counting}
 use Rattle.bends.specs.Bends.{bent_matrix, bent_right}
-use Rattle.numbering.specs.declared.Row.{Row}
 
 -- ---- all links
 

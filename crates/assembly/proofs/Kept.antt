@@ -9,13 +9,12 @@ use Rattle.layout.specs.declared.places.Layout.{Layout}
 use Rattle.links.specs.Links.{link_of}
 use Rattle.constants.specs.Constants.{small_value}
 use Rattle.columns.specs.Columns.{cleared}
-use Rattle.numbering.specs.Numbering.{row_at}
+use Rattle.numbering.specs.Numbering.{row_at, Row}
 use Rattle.scatter.specs.Scatter.{on_diagonal}
 use Rattle.assembly.specs.Assembly.{System, system, View, with_links, demands_taken, right_of, ground_of, grounded_of, assemble_of}
 use Rattle.drawing.specs.Drawing.{counting}
 use Rattle.bends.specs.Bends.{bent_matrix, bent_right}
 use Rattle.bends.proofs.Laws.{bent_matrix_long, bent_right_long}
-use Rattle.numbering.specs.declared.Row.{Row}
 use Rattle.columns.proofs.Laws.{cleared_long}
 use Rattle.rows.proofs.Lengths.{off_row_long, on_diagonal_long}
 use Rattle.scatter.proofs.Lengths.{either_long}

@@ -1,11 +1,11 @@
 -- The columns past the unknowns' stay +0.0: neither the assembly nor a factorization of the unknowns writes there. Assumes nothing.
 use Prim.Native.Nat.{ℕ, zero, suc, ◌+◌, ◌*◌, ◌-◌, ◌≤◌, ◌<◌}
-use mathlib.Core.Path.{◌≡◌, refl, sym, ap, ◌∙◌}
+use mathlib.Core.Path.{◌≡◌, refl, sym, ◌∙◌}
 use mathlib.Core.Bool.{Bool, true, false, cond}
 use mathlib.Core.List.{List}
 use native.Mathlib.Omega.{arith}
 use native.Mathlib.Decide.{dec_lt}
-use lib.ListN.{length, get_or, set, length-set}
+use lib.ListN.{length, get_or}
 use lib.Seq.{get_or-set_other}
 use lib.Dec.{ltb}
 use lib.Ieee.{Float, nan, binary64, of_bits}
@@ -16,21 +16,19 @@ use Rattle.nodes.specs.Nodes.{in_service, serving}
 use Rattle.columns.specs.Columns.{cleared, zeros}
 use Rattle.columns.proofs.Laws.{cleared_at, cleared_long, cleared_zeros, same_entries}
 use Rattle.linear.specs.declared.factorization.UnknownIndex.{UnknownIndex}
-use Rattle.linear.specs.Matrix.{at, put, fill}
+use Rattle.linear.specs.Matrix.{at, put}
 use Rattle.linear.specs.Factorization.{above, reduced, divided, Outcome, columns, factor_of}
-use Rattle.linear.specs.declared.factorization.Factored.TheVariants.{Stopped}
 use Rattle.linear.proofs.Filling.{fill_after}
 use Rattle.linear.proofs.Laws.{factor_length}
 use Rattle.numbering.specs.Numbering.{row_at}
-use Rattle.numbering.specs.declared.Row.{Row}
-use Rattle.numbering.specs.declared.Row.TheVariants.{Unknown, Fixed}
 use Rattle.numbering.proofs.Numbers.{rising, at_most}
 use Rattle.numbering.proofs.Rows.{row_most}
 use Rattle.roots.specs.Root.{root_of}
 use Rattle.scatter.specs.Scatter.{lower}
 use Rattle.assembly.specs.Assembly.{System, View, assemble_of}
-use Rattle.assembly.specs.Unfilled.{OffDiagonal, Apart, Unfilled}
+use Rattle.assembly.specs.Unfilled.{OffDiagonal, Apart}
 use Rattle.assembly.proofs.Unfilled.{unfilled}
+use Rattle.std.specs.Prelude.{Err, None, Some}
 
 other : {A : Type 0} → ◌≡◌ {A = ℕ} 0 1 → A
 other e = absurd (let y : ⊥ = omega arith in y)
@@ -38,11 +36,11 @@ other e = absurd (let y : ⊥ = omega arith in y)
 -- ---- the assembly
 
 -- an unknown's number is below their count
-row_counted : (s : List ℕ) (l : Layout) (n i : ℕ) (u : UnknownIndex) → i < n → row_at s l i ≡ Unknown u → u.0 < serving s l n
+row_counted : (s : List ℕ) (l : Layout) (n i : ℕ) (u : UnknownIndex) → i < n → row_at s l i ≡ Some u → u.0 < serving s l n
 unfolding row_at
 row_counted s l n i u h = go (in_service s l i) refl
   where
-    go : (b : Bool) → in_service s l i ≡ b → cond b (Unknown (record { 0 = serving s l i })) Fixed ≡ Unknown u → u.0 < serving s l n
+    go : (b : Bool) → in_service s l i ≡ b → cond b (Some (record { 0 = serving s l i })) None ≡ Some u → u.0 < serving s l n
     go true e r = let p : serving s l i ≡ u.0 = cc in omega (arith, p, rising s l {i = i} {j = n} e h)
     go false e r = other (cc)
 
@@ -93,7 +91,7 @@ columns_past n (suc m) c a p few h past =
     same : get_or b p nan ≡ get_or a p nan
     same = fill_after (64 * c + c) _ (n - c) a p (omega arith)
 
-    either : (t : Bool) (o : Outcome) → get_or o.matrix p nan ≡ get_or a p nan → get_or (cond t o (record { matrix = b; answer = Stopped (record { 0 = c }) })).matrix p nan ≡ get_or a p nan
+    either : (t : Bool) (o : Outcome) → get_or o.matrix p nan ≡ get_or a p nan → get_or (cond t o (record { matrix = b; answer = Err (record { 0 = c }) })).matrix p nan ≡ get_or a p nan
     either true o e = e
     either false o e = same
 

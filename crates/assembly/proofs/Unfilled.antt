@@ -1,6 +1,6 @@
 -- Item 6: entries of the assembled matrix that no link fills, no grounded diagonal, and no demand that gives way, are +0.0. Assumes nothing.
-use Prim.Native.Nat.{ℕ, zero, suc, ◌+◌, ◌*◌, ◌≤◌, ◌<◌}
-use mathlib.Core.Path.{◌≡◌, refl, sym, ◌∙◌}
+use Prim.Native.Nat.{ℕ, zero, suc, ◌+◌, ◌*◌, ◌<◌}
+use mathlib.Core.Path.{◌≡◌, refl, ◌∙◌}
 use mathlib.Core.Bool.{Bool, true, false, cond, ◌&&◌}
 use mathlib.Core.List.{List}
 use native.Mathlib.Omega.{arith}
@@ -16,9 +16,7 @@ use Rattle.coefficient.specs.declared.NodeAddition.{NodeAddition}
 use Rattle.columns.specs.Columns.{cleared, add_to, take_from}
 use Rattle.columns.proofs.Laws.{cleared_at}
 use Rattle.nodes.specs.Nodes.{enabled}
-use Rattle.numbering.specs.Numbering.{row_at}
-use Rattle.numbering.specs.declared.Row.{Row}
-use Rattle.numbering.specs.declared.Row.TheVariants.{Unknown, Fixed}
+use Rattle.numbering.specs.Numbering.{row_at, Row}
 use Rattle.scatter.specs.Scatter.{on_diagonal, lower, off_between, given_diagonal, link_matrix}
 use Rattle.assembly.specs.Assembly.{System, system, View, coefficients_at, link_placed, link_added, with_links, ground_of, grounded_of, assemble_of}
 use Rattle.records.specs.Records.{pressures_of}
@@ -29,26 +27,28 @@ use Rattle.drawing.specs.Drawing.{range_of, bend_of}
 use Rattle.drawing.specs.declared.Bend.{Bend}
 use Rattle.bends.specs.Bends.{bends, bend_diagonal, node_diagonal, diagonal_bends, bent_matrix}
 use Rattle.assembly.specs.Unfilled.{OffDiagonal, Apart, Unfilled}
+use Rattle.std.specs.Prelude.{None, Option, Some}
 
 module _ (p : ℕ) where
   diagonal_apart : (row : Row) (x : Float) (m : List Float) → OffDiagonal row p → get_or (on_diagonal row x m) p nan ≡ get_or m p nan
   unfolding on_diagonal add_to
-  diagonal_apart (Unknown u) x m a = get_or-set_other m (64 * u.0 + u.0) p (add binary64 (get_or m (64 * u.0 + u.0) nan) x) nan (a.off u refl)
-  diagonal_apart Fixed x m a = refl
+  diagonal_apart (Some u) x m a = get_or-set_other m (64 * u.0 + u.0) p (add binary64 (get_or m (64 * u.0 + u.0) nan) x) nan (a.off u refl)
+  diagonal_apart None x m a = refl
 
   between_apart : (u v : Row) (x : Float) (m : List Float) → Apart u v p → get_or (off_between u v x m) p nan ≡ get_or m p nan
   unfolding off_between take_from
-  between_apart (Unknown u) (Unknown v) x m a = get_or-set_other m (lower u.0 v.0) p (sub binary64 (get_or m (lower u.0 v.0) nan) x) nan (a.between u v refl refl)
-  between_apart (Unknown u) Fixed x m a = refl
-  between_apart Fixed v x m a = refl
+  between_apart (Some u) (Some v) x m a = get_or-set_other m (lower u.0 v.0) p (sub binary64 (get_or m (lower u.0 v.0) nan) x) nan (a.between u v refl refl)
+  between_apart (Some u) None x m a = refl
+  between_apart None v x m a = refl
 
   either : (b : Bool) (z m : List Float) → get_or z p nan ≡ get_or m p nan → get_or (cond b z m) p nan ≡ get_or m p nan
   either true z m h = h
   either false z m h = refl
 
-  given_apart : (a : NodeAddition) (row : Row) (m : List Float) → OffDiagonal row p → get_or (given_diagonal a row m) p nan ≡ get_or m p nan
+  given_apart : (a : Option NodeAddition) (row : Row) (m : List Float) → OffDiagonal row p → get_or (given_diagonal a row m) p nan ≡ get_or m p nan
   unfolding given_diagonal
-  given_apart a row m d = either a.given (on_diagonal row a.diagonal m) m (diagonal_apart row a.diagonal m d)
+  given_apart None row m d = refl
+  given_apart (Some a) row m d = diagonal_apart row a.diagonal m d
 
   link_apart : (u v : Row) (c : Coefficients) (m : List Float) → Apart u v p → get_or (link_matrix u v c m) p nan ≡ get_or m p nan
   unfolding link_matrix

@@ -5,9 +5,8 @@ use Rattle.layout.specs.declared.places.Layout.{Layout}
 use Rattle.links.specs.Links.{link_of}
 use Rattle.constants.specs.Constants.{small_value}
 use Rattle.columns.specs.Columns.{cleared}
-use Rattle.numbering.specs.Numbering.{row_at}
+use Rattle.numbering.specs.Numbering.{row_at, Row}
 use Rattle.scatter.specs.Scatter.{on_diagonal, off_row}
-use Rattle.numbering.specs.declared.Row.{Row}
 use Rattle.drawing.specs.Drawing.{counting}
 use Rattle.bends.specs.Bends.{bent_matrix, bent_right}
 -- what one link adds, from crate link_rows

@@ -1,7 +1,6 @@
 // The matrix and the right side: links in order, then bends and node demands, then the grounded
 // diagonals.
 ghost use Rattle.std.specs.Prelude.{◌≡◌, ◌≤◌, length};
-ghost use Rattle.power.specs.Tables.{power_table};
 ghost use Rattle.numbering.specs.Numbering.{RowsRight, RowBelow};
 ghost use Rattle.bends.specs.Bends.{Bending, bent_matrix};
 ghost use Rattle.columns.specs.Columns.{zeros};
@@ -15,6 +14,7 @@ use layout::Layout;
 use link_rows::add_link;
 use nodes::NodeIndex;
 use numbering::{Row, unknown_of};
+use power::PowerTable;
 use rows::{add_to_diagonal, take_from_row};
 
 // All links in order.
@@ -22,7 +22,7 @@ fn add_links(
     sheet: &[u8],
     l: Layout,
     unknowns: &[usize],
-    table: &[u64; 1153],
+    table: &PowerTable,
     heads: &[f64],
     flows: &[f64],
     statuses: &[u8],
@@ -34,7 +34,6 @@ fn add_links(
 )
     requires given { Given l sheet.now unknowns.now (view heads.now flows.now statuses.now excess.now) }
     requires sized { Sized l (system matrix.old rhs.old g.old y.old) }
-    requires table_value { table.now ≡ power_table }
     ensures { system matrix.new rhs.new g.new y.new ≡ with_links sheet.now l (view heads.now flows.now statuses.now excess.now) l.links (system matrix.old rhs.old g.old y.old) }
 {
     for j in 0..l.links {
@@ -50,11 +49,9 @@ fn take_demands(sheet: &[u8], l: Layout, unknowns: &[usize], demands: &[f64], rh
     requires rows_right { RowsRight l sheet.now unknowns.now }
     ensures { rhs.new ≡ demands_taken sheet.now l demands.now l.nodes rhs.old }
 {
-    let mut i: usize = 0;
-    while i < l.nodes {
+    for i in 0..l.nodes {
         let row = unknown_of(unknowns, NodeIndex(i));
         take_from_row(row, demands[i], rhs);
-        i += 1;
     }
 }
 
@@ -94,11 +91,9 @@ fn add_grounded(sheet: &[u8], l: Layout, unknowns: &[usize], grounded: &[bool], 
     requires rows_right { RowsRight l sheet.now unknowns.now }
     ensures { matrix.new ≡ grounded_of sheet.now l grounded.now l.nodes matrix.old }
 {
-    let mut i: usize = 0;
-    while i < l.nodes {
+    for i in 0..l.nodes {
         let row = unknown_of(unknowns, NodeIndex(i));
         ground(grounded[i], row, matrix);
-        i += 1;
     }
 }
 
@@ -108,7 +103,7 @@ pub fn assemble<'a>(
     sheet: &[u8],
     l: Layout,
     unknowns: &[usize],
-    table: &[u64; 1153],
+    table: &PowerTable,
     heads: &[f64],
     demands: &'a [f64],
     drawn: &'a [f64],
@@ -125,7 +120,6 @@ pub fn assemble<'a>(
     requires sized { Sized l (system matrix.old rhs.old g.old y.old) }
     requires matrix_value { matrix.old ≡ zeros 4096 }
     requires nodes_in_bounds { (l.nodes ≤ length demands.now) × ((l.nodes ≤ length drawn.now) × (l.nodes ≤ length grounded.now)) }
-    requires table_value { table.now ≡ power_table }
     ensures { system matrix.new rhs.new g.new y.new ≡ assemble_of sheet.now l (view heads.now flows.now statuses.now excess.now) demands.now drawn.now grounded.now (system matrix.old rhs.old g.old y.old) }
 {
     clear(64, rhs);

@@ -7,11 +7,11 @@ use lib.ListN.{get_or}
 use lib.Ieee.{Float, nan}
 use Rattle.layout.specs.declared.places.Layout.{Layout}
 use Rattle.found.specs.Searches.{first_from, First}
-use Rattle.found.specs.declared.Found.TheVariants.{At, Nothing}
 use Rattle.found.proofs.Firsts.{first_start, first_is, first_none}
 use Rattle.nodes.specs.Nodes.{in_service}
 use Rattle.tolerance.specs.Within.{within_of}
 use Rattle.balances.specs.Balances.{leaks, unbalanced_of}
+use Rattle.std.specs.Prelude.{None, Some}
 
 -- what is no leak in service is near
 near : (serves b : Bool) → (serves && not b) ≡ false → serves ≡ true → b ≡ true
@@ -30,11 +30,11 @@ module _ (s : List ℕ) (l : Layout) (e : List Float) (flow : Float) where
   leaks_start k h = first_start (leaks s l e flow) l.nodes k h
 
   -- no 4: at every junction in service the flows add up
-  pub all_balanced : unbalanced_of s l e flow ≡ Nothing → (i : ℕ) → i < l.nodes → in_service s l i ≡ true → within_of (get_or e i nan) flow ≡ true
+  pub all_balanced : unbalanced_of s l e flow ≡ None → (i : ℕ) → i < l.nodes → in_service s l i ≡ true → within_of (get_or e i nan) flow ≡ true
   unfolding unbalanced_of leaks
   all_balanced none i h t = near (in_service s l i) (within_of (get_or e i nan) flow) (first_none (leaks s l e flow) l.nodes none i h) t
 
   -- 4: they do not at this one, and at none lower that leaks
-  pub lowest_leak : (i : ℕ) → unbalanced_of s l e flow ≡ At i → First (leaks s l e flow) l.nodes i
+  pub lowest_leak : (i : ℕ) → unbalanced_of s l e flow ≡ Some i → First (leaks s l e flow) l.nodes i
   unfolding unbalanced_of
   lowest_leak i h = first_is (leaks s l e flow) l.nodes i h

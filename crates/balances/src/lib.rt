@@ -5,9 +5,9 @@ ghost use Rattle.std.specs.Prelude.{◌≡◌, ◌<◌, ◌≤◌, length};
 ghost use Rattle.layout.specs.Places.{Laid};
 ghost use Rattle.balances.specs.Balances.{leaks, unbalanced_of};
 
-use found::Found;
 use layout::Layout;
 use nodes::in_service;
+use search::first_where;
 use tolerance::within;
 
 // Whether node i is a junction in service whose flows do not add up.
@@ -24,15 +24,10 @@ fn leaks_at(sheet: &[u8], l: Layout, i: usize, excess: &[f64], flow: f64) -> boo
 
 // The lowest junction in service whose entry, what flows in less what flows out and the demand, is
 // not within `flow` of 0.
-pub fn unbalanced(sheet: &[u8], l: Layout, excess: &[f64], flow: f64) -> Found
+pub fn unbalanced(sheet: &[u8], l: Layout, excess: &[f64], flow: f64) -> Option<usize>
     requires laid { Laid l sheet.now }
     requires nodes_in_bounds { l.nodes ≤ length excess.now }
     ensures { result ≡ unbalanced_of sheet.now l excess.now flow }
 {
-    for i in 0..l.nodes {
-        if leaks_at(sheet, l, i, excess, flow) {
-            return Found::At(i);
-        }
-    }
-    Found::Nothing
+    first_where(l.nodes, |i| leaks_at(sheet, l, i, excess, flow))
 }

@@ -16,8 +16,7 @@ use Rattle.nodes.specs.Nodes.{in_service, elevation_of}
 use Rattle.drawing.specs.Drawing.{gives_way, range_of, bend_of}
 use Rattle.drawing.specs.declared.Bend.{Bend}
 use Rattle.drawing.proofs.Laws.{with_pressures, without_pressures}
-use Rattle.numbering.specs.Numbering.{row_at}
-use Rattle.numbering.specs.declared.Row.{Row}
+use Rattle.numbering.specs.Numbering.{row_at, Row}
 use Rattle.rows.specs.Rows.{on_row, on_diagonal}
 use Rattle.rows.proofs.Lengths.{on_row_long, on_diagonal_long}
 use Rattle.scatter.proofs.Lengths.{either_long}

@@ -11,9 +11,8 @@ use Rattle.constants.specs.Constants as constant
 use Rattle.nodes.specs.Nodes.{in_service, elevation_of}
 use Rattle.drawing.specs.Drawing.{gives_way, range_of, bend_of}
 use Rattle.drawing.specs.declared.Bend.{Bend}
-use Rattle.numbering.specs.Numbering.{row_at, RowsRight}
+use Rattle.numbering.specs.Numbering.{row_at, RowsRight, Row}
 use Rattle.rows.specs.Rows.{on_row, on_diagonal}
-use Rattle.numbering.specs.declared.Row.{Row}
 
 -- the bend of node i's demand, which has this row, in the right side and on the diagonal, where it has a gradient above 0
 unfoldable pub bend_row : Bend → Float → Float → Row → List Float → List Float

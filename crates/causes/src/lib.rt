@@ -16,11 +16,7 @@ pub enum Cause {
 }
 
 // What is told of the links that changed in one update: the lowest and its cause.
-#[derive(Clone, Copy)]
-pub enum Flip {
-    Nothing,
-    Link(LinkIndex, Cause),
-}
+pub type Flip = Option<(LinkIndex, Cause)>;
 
 // The number of a cause.
 pub fn cause_code(cause: Cause) -> usize
@@ -40,8 +36,8 @@ pub fn first_flip(flip: Flip, j: usize, cause: Cause) -> Flip
     ensures { result ≡ first_flip flip j cause }
 {
     match flip {
-        Flip::Nothing => Flip::Link(LinkIndex(j), cause),
-        Flip::Link(_, _) => flip,
+        None => Some((LinkIndex(j), cause)),
+        Some(_) => flip,
     }
 }
 
@@ -50,8 +46,8 @@ pub fn flip_number(flip: Flip) -> usize
     ensures { result ≡ flip_number flip }
 {
     match flip {
-        Flip::Nothing => 0,
-        Flip::Link(j, cause) => {
+        None => 0,
+        Some((j, cause)) => {
             let low = (j.0 % 256 + 1) % 256;
             let high = cause_code(cause);
             low + 256 * high

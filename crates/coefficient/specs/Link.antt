@@ -1,17 +1,17 @@
 -- link.rs: a link's coefficients by value. Definitions only.
-use Rattle.std.specs.Prelude.{true, false, Float}
+use Rattle.std.specs.Prelude.{Float, Option, Some, None}
 use Rattle.constants.specs.Arithmetic.{over}
-use Rattle.constants.specs.Constants.{zero, one, big_value, small_value}
+use Rattle.constants.specs.Constants.{one, big_value, small_value}
 use Rattle.coefficient.specs.declared.NodeAddition.{NodeAddition}
 use Rattle.coefficient.specs.declared.Coefficients.{Coefficients}
 
--- an absent addition has no numbers to add: those of +0.0 stand in their places
-unfoldable pub no_addition : NodeAddition
-no_addition = record { given = false; diagonal = zero; rhs = zero }
+-- an absent addition
+unfoldable pub no_addition : Option NodeAddition
+no_addition = None
 
 -- what holds the head of a node: BIG_VALUE on the diagonal
-unfoldable pub held_at : Float → NodeAddition
-held_at r = record { given = true; diagonal = big_value; rhs = r }
+unfoldable pub held_at : Float → Option NodeAddition
+held_at r = Some (record { diagonal = big_value; rhs = r })
 
 -- `LinkCoefficients::simple`
 unfoldable pub simple_of : Float → Float → Coefficients

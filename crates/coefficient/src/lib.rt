@@ -2,15 +2,13 @@
 #![tactic(auto)]
 
 ghost use Rattle.std.specs.Prelude.{◌≡◌};
-ghost use Rattle.coefficient.specs.Link.{no_addition, held_at, simple_of};
+ghost use Rattle.coefficient.specs.Link.{held_at, simple_of};
 
 use constants::BIG_VALUE;
 
-// What is added at a node: to its diagonal and to its right-hand side. An absent addition, where
-// `given` is false, is never added.
+// What is added at a node: to its diagonal and to its right-hand side.
 #[derive(Clone, Copy)]
 pub struct NodeAddition {
-    pub given: bool,
     pub diagonal: f64,
     pub rhs: f64,
 }
@@ -20,30 +18,19 @@ pub struct NodeAddition {
 pub struct Coefficients {
     pub conductance: f64,
     pub offset: f64,
-    pub upstream: NodeAddition,
-    pub downstream: NodeAddition,
-}
-
-// No addition.
-pub fn absent() -> NodeAddition
-    ensures { result ≡ no_addition }
-{
-    NodeAddition {
-        given: false,
-        diagonal: 0.0,
-        rhs: 0.0,
-    }
+    pub upstream: Option<NodeAddition>,
+    pub downstream: Option<NodeAddition>,
 }
 
 // BIG_VALUE on the diagonal, and a right-hand side.
-pub fn held(rhs: f64) -> NodeAddition
+pub fn held(rhs: f64) -> Option<NodeAddition>
     ensures { result ≡ held_at rhs }
 {
-    NodeAddition {
-        given: true,
+    let held = NodeAddition {
         diagonal: BIG_VALUE,
-        rhs: rhs,
-    }
+        rhs,
+    };
+    Some(held)
 }
 
 // Coefficients without additions.
@@ -53,7 +40,7 @@ pub fn simple(g_inv: f64, y: f64) -> Coefficients
     Coefficients {
         conductance: g_inv,
         offset: y,
-        upstream: absent(),
-        downstream: absent(),
+        upstream: None,
+        downstream: None,
     }
 }

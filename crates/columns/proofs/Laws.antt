@@ -19,6 +19,17 @@ pub cleared_next : (i : ℕ) (e₀ e : List Float) → e ≡ cleared i e₀ → 
 unfolding cleared
 cleared_next i e₀ e h = rw (add-one i, h)
 
+-- the first n written over with zeros, of which one more is written
+filled_suc : (n : ℕ) (z : Float) (e : List Float) → n < length e → set (replicate n z ++ drop n e) n z ≡ replicate (suc n) z ++ drop (suc n) e
+filled_suc n z [] l = absurd (not-suc-le-zero l)
+filled_suc zero z (x ∷ e) l = refl
+filled_suc (suc n) z (x ∷ e) l = ap (λ (t : List Float). z ∷ t) (filled_suc n z e (le_of_suc-le-suc l))
+
+pub cleared_is : (n : ℕ) (e : List Float) → n ≤ length e → replicate n (of_bits binary64 0) ++ drop n e ≡ cleared n e
+unfolding cleared
+cleared_is zero e h = refl
+cleared_is (suc n) e h = sym (filled_suc n (of_bits binary64 0) e h) ∙ ap (λ (t : List Float). set t n (of_bits binary64 0)) (cleared_is n e (omega arith))
+
 pub add_long : (e : List Float) (i : ℕ) (x : Float) → length (add_to e i x) ≡ length e
 unfolding add_to
 add_long e i x = length-set e i _

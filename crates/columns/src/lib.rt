@@ -9,9 +9,7 @@ pub fn clear(count: usize, x: &mut [f64])
     requires { count ≤ length x.old }
     ensures { x.new ≡ cleared count x.old }
 {
-    for i in 0..count {
-        x[i] = 0.0;
-    }
+    x[..count].fill(0.0);
 }
 
 pub fn add_to(x: &mut [f64], at: usize, value: f64)
@@ -29,20 +27,9 @@ pub fn take_from(x: &mut [f64], at: usize, value: f64)
 }
 
 // Copies the first n entries; the rest stays.
-pub fn copy_floats(to: &mut [f64], from: &[f64], n: usize)
+pub fn copy_first<T: Copy>(to: &mut [T], from: &[T], n: usize)
     requires { (n ≤ length to.old) × (n ≤ length from.now) }
     ensures { to.new ≡ copied n from.now to.old }
 {
-    for i in 0..n {
-        to[i] = from[i];
-    }
-}
-
-pub fn copy_bytes(to: &mut [u8], from: &[u8], n: usize)
-    requires { (n ≤ length to.old) × (n ≤ length from.now) }
-    ensures { to.new ≡ copied n from.now to.old }
-{
-    for k in 0..n {
-        to[k] = from[k];
-    }
+    to[..n].copy_from_slice(&from[..n]);
 }

@@ -11,7 +11,7 @@ ghost use Rattle.answers.specs.Answers.{lent};
 ghost use Rattle.conclusion.specs.Conclusion.{emptied, told};
 
 use answers::{Answer, failed};
-use columns::{copy_bytes, copy_floats};
+use columns::copy_first;
 use drawing::counts;
 use entries::{Ended, Tally};
 use layout::Layout;
@@ -35,10 +35,10 @@ fn give(
     ensures flows { flows.new ≡ copied l.links q.now flows.old }
     ensures statuses { statuses.new ≡ copied l.links c.now statuses.old }
 {
-    copy_floats(heads, h, l.nodes);
-    copy_floats(demands, d, l.nodes);
-    copy_floats(flows, q, l.links);
-    copy_bytes(statuses, c, l.links);
+    copy_first(heads, h, l.nodes);
+    copy_first(demands, d, l.nodes);
+    copy_first(flows, q, l.links);
+    copy_first(statuses, c, l.links);
 }
 
 // What a run came to, told: results on 0 alone. The columns are the run's own.

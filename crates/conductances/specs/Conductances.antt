@@ -1,5 +1,5 @@
 -- Every link of an accepted sheet but an Active PRV or PSV has a conductance above zero and holds no head, whatever flow below 2 ^ 64 it carries. Statements only.
-use Rattle.std.specs.Prelude.{◌≡◌, Bool, true, false, T, Float}
+use Rattle.std.specs.Prelude.{◌≡◌, Bool, true, false, T, Float, None}
 use Rattle.std.specs.Float.{binary64}
 use Rattle.std.specs.Float.Ieee.{fits, lt, le}
 use Rattle.float.specs.Order.{wild_of}
@@ -48,8 +48,8 @@ pub record Sound (k : Link) : Type 0 where
 -- a conductance above zero, and no addition to a node
 pub record Conducts (c : Coefficients) : Type 0 where
   pub above : lt zero c.conductance ≡ true
-  pub no_start : c.upstream.given ≡ false
-  pub no_end : c.downstream.given ≡ false
+  pub no_start : c.upstream ≡ None
+  pub no_end : c.downstream ≡ None
 
 abbrev pub LinkConducts : Type 0
 LinkConducts =

@@ -7,10 +7,10 @@ use Rattle.codes.specs.declared.LinkKind.{LinkKind}
 use Rattle.codes.specs.declared.LinkKind.TheVariants.{Pipe, Prv, Psv, Fcv}
 use Rattle.codes.specs.declared.Status.TheVariants.{Closed, Open, Active, FixedClosed, XPressure}
 use Rattle.constants.specs.Constants.{zero, q_zero, quarter, half, one}
-use Rattle.found.specs.declared.Found.TheVariants.{At, Nothing}
 use Rattle.records.specs.declared.records.Link.{Link}
 use Rattle.conducting.specs.Conducting.{pressed, pipe_conducts, controlled, valve_conducts, conducts_of, held_by, holds_of}
 use Rattle.status.specs.Rules.{is_active}
+use Rattle.std.specs.Prelude.{None, Some}
 
 -- a link from node 1 to node 2, set to a half
 abbrev link : LinkKind → Bool → Link
@@ -31,7 +31,7 @@ unfolding conducts_of valve_conducts controlled lt odd of_bits of_fields count_t
 limits = (refl, refl)
 
 -- an Active PRV holds its end and an Active PSV its start; a freed one conducts, and holds nothing
-regulators : (holds_of (link Prv false) Active ≡ At 2) × (holds_of (link Psv false) Active ≡ At 1) × (holds_of (link Prv false) XPressure ≡ Nothing)
+regulators : (holds_of (link Prv false) Active ≡ Some 2) × (holds_of (link Psv false) Active ≡ Some 1) × (holds_of (link Prv false) XPressure ≡ None)
 unfolding holds_of held_by is_active
 regulators = (refl, refl, refl)
 

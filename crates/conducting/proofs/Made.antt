@@ -10,12 +10,11 @@ use Rattle.codes.specs.Codes.{status_of, link_kind_of}
 use Rattle.codes.specs.declared.LinkKind.{LinkKind}
 use Rattle.codes.specs.declared.Status.{Status}
 use Rattle.constants.specs.Constants.{q_zero}
-use Rattle.found.specs.declared.Found.{Found}
-use Rattle.found.specs.declared.Found.TheVariants.{Nothing}
 use Rattle.records.specs.declared.records.Link.{Link}
 use Rattle.status.specs.Rules.{is_active}
 use Rattle.status.proofs.Cases.{status_tag, of_status, kind_tag, of_kind}
 use Rattle.conducting.specs.Conducting.{pressed, pipe_conducts, controlled, valve_conducts, if_pipe, conducts_of, held_by, holds_of}
+use Rattle.std.specs.Prelude.{None, Option}
 
 module _ (check : Bool) (flow : Float) (s : Status) where
   pub pipe_shut : OneOf (0 ∷ 3 ∷ []) (status_tag s) → false ≡ pipe_conducts check s flow
@@ -56,15 +55,15 @@ of_valve k s flow b h e =
     of_kind (λ (t : LinkKind). b ≡ if_pipe t (pipe_conducts k.check s flow) (valve_conducts k.kind k.setting s flow)) (1 ∷ 2 ∷ 3 ∷ 4 ∷ 5 ∷ 6 ∷ []) k.kind h
     (e, (e, (e, (e, (e, (e, tt))))))
 
-pub holds_none : (kind : LinkKind) (start end : ℕ) → OneOf (0 ∷ 3 ∷ 4 ∷ 5 ∷ 6 ∷ []) (kind_tag kind) → Nothing ≡ held_by kind start end
+pub holds_none : (kind : LinkKind) (start end : ℕ) → OneOf (0 ∷ 3 ∷ 4 ∷ 5 ∷ 6 ∷ []) (kind_tag kind) → None ≡ held_by kind start end
 unfolding held_by link_kind_of
-holds_none kind start end h = of_kind (λ (k : LinkKind). Nothing ≡ held_by k start end) (0 ∷ 3 ∷ 4 ∷ 5 ∷ 6 ∷ []) kind h (refl, (refl, (refl, (refl, (refl, tt)))))
+holds_none kind start end h = of_kind (λ (k : LinkKind). None ≡ held_by k start end) (0 ∷ 3 ∷ 4 ∷ 5 ∷ 6 ∷ []) kind h (refl, (refl, (refl, (refl, (refl, tt)))))
 
 module _ (k : Link) (s : Status) (active : Bool) (is : active ≡ is_active s) where
-  pub holds_not : not active ≡ true → Nothing ≡ holds_of k s
+  pub holds_not : not active ≡ true → None ≡ holds_of k s
   unfolding holds_of
   holds_not t = rw (sym is ∙ not-true active t)
 
-  pub holds_at_lem : not active ≡ false → (f : Found) → f ≡ held_by k.kind k.start k.end → f ≡ holds_of k s
+  pub holds_at_lem : not active ≡ false → (f : Option ℕ) → f ≡ held_by k.kind k.start k.end → f ≡ holds_of k s
   unfolding holds_of
   holds_at_lem t f e = rw (sym is ∙ not-false active t) e

@@ -1,13 +1,11 @@
 -- Which links join the heads of their ends, and which head an Active regulator gives (docs/DESK.md). Definitions only.
-use Rattle.std.specs.Prelude.{ℕ, Bool, true, false, not, cond, ◌&&◌, Float}
+use Rattle.std.specs.Prelude.{ℕ, Bool, true, false, not, cond, ◌&&◌, Float, None, Option, Some}
 use Rattle.std.specs.Float.Ieee.{lt, le, neg}
 use Rattle.codes.specs.declared.LinkKind.{LinkKind}
 use Rattle.codes.specs.declared.LinkKind.TheVariants.{Pipe, Prv, Psv, Pbv, Fcv, Tcv, Pcv}
 use Rattle.codes.specs.declared.Status.{Status}
 use Rattle.codes.specs.declared.Status.TheVariants.{Closed, Open, Active, TempClosed, FixedClosed, FixedOpen, XPressure, Xhead}
 use Rattle.constants.specs.Constants.{zero, q_zero}
-use Rattle.found.specs.declared.Found.{Found}
-use Rattle.found.specs.declared.Found.TheVariants.{At, Nothing}
 use Rattle.records.specs.declared.records.Link.{Link}
 use Rattle.status.specs.Rules.{is_active}
 
@@ -64,16 +62,16 @@ unfolding pipe_conducts valve_conducts
 conducts_of k status flow = if_pipe k.kind (pipe_conducts k.check status flow) (valve_conducts k.kind k.setting status flow)
 
 -- a PRV gives the head at its end, a PSV that at its start
-unfoldable pub held_by : LinkKind → ℕ → ℕ → Found
-held_by Prv start end = At end
-held_by Psv start end = At start
-held_by Pipe start end = Nothing
-held_by Pbv start end = Nothing
-held_by Fcv start end = Nothing
-held_by Tcv start end = Nothing
-held_by Pcv start end = Nothing
+unfoldable pub held_by : LinkKind → ℕ → ℕ → Option ℕ
+held_by Prv start end = Some end
+held_by Psv start end = Some start
+held_by Pipe start end = None
+held_by Pbv start end = None
+held_by Fcv start end = None
+held_by Tcv start end = None
+held_by Pcv start end = None
 
 -- while it is Active
-unfoldable pub holds_of : Link → Status → Found
+unfoldable pub holds_of : Link → Status → Option ℕ
 unfolding held_by is_active
-holds_of k status = cond (is_active status) (held_by k.kind k.start k.end) Nothing
+holds_of k status = cond (is_active status) (held_by k.kind k.start k.end) None

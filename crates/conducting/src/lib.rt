@@ -5,7 +5,6 @@ ghost use Rattle.std.specs.Prelude.{◌≡◌};
 ghost use Rattle.conducting.specs.Conducting.{pipe_conducts, controlled, valve_conducts, conducts_of, held_by, holds_of};
 
 use constants::Q_ZERO;
-use found::Found;
 use records::{Link, LinkKind, Status};
 use status::is_active;
 
@@ -55,22 +54,22 @@ pub fn conducts(k: Link, status: Status, flow: f64) -> bool
 }
 
 // The node whose head a link of this kind gives while it is Active.
-fn held_by(kind: LinkKind, start: usize, end: usize) -> Found
+fn held_by(kind: LinkKind, start: usize, end: usize) -> Option<usize>
     ensures { result ≡ held_by kind start end }
 {
     match kind {
-        LinkKind::Prv => Found::At(end),
-        LinkKind::Psv => Found::At(start),
-        _ => Found::Nothing,
+        LinkKind::Prv => Some(end),
+        LinkKind::Psv => Some(start),
+        _ => None,
     }
 }
 
 // The node whose head a link gives at a status.
-pub fn holds(k: Link, status: Status) -> Found
+pub fn holds(k: Link, status: Status) -> Option<usize>
     ensures { result ≡ holds_of k status }
 {
     if !is_active(status) {
-        return Found::Nothing;
+        return None;
     }
     let kind = k.kind;
     held_by(kind, k.start, k.end)

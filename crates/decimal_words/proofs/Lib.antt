@@ -1,4 +1,3 @@
 pub mod Turns
-pub mod Signs
 pub mod Parts
 pub mod Examples

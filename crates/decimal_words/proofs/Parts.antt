@@ -1,34 +1,22 @@
 -- The parts of a number, case by case. Assumes nothing.
-use mathlib.Core.Path.{◌≡◌, refl, sym, ap, ◌∙◌, subst}
-use mathlib.Core.Bool.{Bool, true, false, cond, not, ◌&&◌, and_assoc, false≢true}
+use mathlib.Core.Path.{◌≡◌, refl, sym, ap, ◌∙◌}
+use mathlib.Core.Bool.{Bool, true, false, cond, ◌&&◌, and_assoc, false≢true}
 use mathlib.Core.List.{List, [], ◌∷◌, ◌++◌}
-use Prim.Native.Nat.{ℕ, zero, suc, ◌+◌, ◌-◌, ◌*◌, ◌^◌, ◌≤◌, ◌<◌, min}
-use native.Mathlib.Nat.{le_of_eq}
-use native.Mathlib.Numerals.{add-one}
+use Prim.Native.Nat.{ℕ, suc, ◌+◌, ◌-◌, ◌*◌, ◌^◌, ◌≤◌, ◌<◌, min}
 use native.Mathlib.Omega.{arith}
-use lib.Dec.{ltb, leb, lit<, lit≤}
-use borrow.Author.Tests.{lt-ltb, le-ltb, le-leb, lt-leb, leb-true, leb-false, ltb-true}
-use lib.ListN.{length, take, drop, length-append, length-drop, drop_of_length-le}
-use lib.Seq.{take_all}
+use lib.Dec.{ltb, leb, lit≤}
+use borrow.Author.Tests.{le-leb, lt-leb, leb-true}
+use lib.ListN.{length, take, drop, length-append}
+use lib.Seq.{length-take-le}
+use Rattle.std.specs.Prelude.{Option, Some, None, IfSome}
 use Rattle.lines.specs.Lines.{stretch}
-use Rattle.lines.proofs.Lines.{stretch_within}
+use Rattle.lines.proofs.Stretches.{rest}
 use Rattle.decimal_words.specs.declared.written.Written.{Written}
 use Rattle.decimal_words.specs.declared.written.Mantissa.{Mantissa}
 use Rattle.decimal_words.specs.declared.written.Exponent.{Exponent}
-use Rattle.decimal_words.specs.Numbers.{is_digit, is_point, is_mark, sign_length, negated, unsigned, all_digits, value_from, value_of, before, behind, few_digits, mantissa_of, exponent_of, no_exponent, exponent_in, not_written, joined_of, written_of, Ranged}
+use Rattle.decimal_words.specs.Numbers.{is_digit, is_point, is_mark, sign_length, negated, unsigned, all_digits, value_from, value_of, before, behind, few_digits, mantissa_of, exponent_of, no_exponent, exponent_in, joined_of, both_of, written_of, Ranged}
 use Rattle.decimal_words.specs.Room.{Room}
 use Rattle.decimal_words.proofs.Turns.{both_left, both_right, digit_high, room_first, room_next, room_small}
-
--- ---- parts of a list
-
-pub rest : (k : ℕ) (s : List ℕ) → k ≤ length s → take (length s - k) (drop k s) ≡ drop k s
-rest k s h = take_all (length s - k) (drop k s) (le_of_eq (length-drop k s))
-
-pub next_from : (k : ℕ) (s : List ℕ) → drop (k + 1) s ≡ drop (suc k) s
-next_from k s = ap (λ (n : ℕ). drop n s) (add-one k)
-
-pub none_behind : (k : ℕ) (s : List ℕ) → length s ≤ k → drop k s ≡ drop (suc k) s
-none_behind k s h = drop_of_length-le s h ∙ sym (drop_of_length-le s {i = suc k} (omega arith))
 
 -- ---- digits behind digits
 
@@ -53,62 +41,58 @@ digits_room n k (c ∷ cs) e r =
 
 -- ---- the mantissa: a stands before the point, b behind it
 
-abbrev made : List ℕ → List ℕ → Mantissa
-made a b =
-    cond (few_digits (a ++ b))
-    (record { good = true; digits = value_of (a ++ b); places = length b })
-    (record { good = false; digits = 0; places = 0 })
-
-abbrev bad : Mantissa
-bad = record { good = false; digits = 0; places = 0 }
-
-made_is : (m a b : List ℕ) → a ≡ before is_point m → b ≡ behind is_point m → made a b ≡ mantissa_of m
-unfolding mantissa_of
-made_is m a b e f = rw (e, f)
-
 few_is : (a b : List ℕ) → few_digits (a ++ b) ≡ (all_digits a && all_digits b && ltb 0 (length a + length b) && leb (length a + length b) 17)
 few_is a b = rw (all_append a b, length-append a b)
 
-positive : (n : ℕ) → (n ≡ 0 → ⊥) → 0 < n
-positive zero h = absurd (h refl)
-positive (suc n) h = omega arith
+pub record Few (a b : List ℕ) : Type 0 where
+  pub whole : (all_digits a ≡ true) × Room 0 (length a)
+  pub part : (all_digits b ≡ true) × Room (value_from 0 a) (length b)
 
-and_false : (b : Bool) → (b && false) ≡ false
-and_false true = refl
-and_false false = refl
+few_true : (a b : List ℕ) → few_digits (a ++ b) ≡ true → Few a b
+few_true a b e =
+    let n : ℕ = length a + length b in
+    let t : (all_digits a && all_digits b && ltb 0 n && leb n 17) ≡ true = sym (few_is a b) ∙ e in
+    let k : n ≤ 17 = leb-true n 17 (both_right (all_digits a && all_digits b && ltb 0 n) (leb n 17) t) in
+    let d : (all_digits a && all_digits b) ≡ true = both_left (all_digits a && all_digits b) (ltb 0 n) (both_left (all_digits a && all_digits b && ltb 0 n) (leb n 17) t) in
+    let x : all_digits a ≡ true = both_left (all_digits a) (all_digits b) d in
+    record {
+      whole = (x, room_first (length a) (omega arith));
+      part = (both_right (all_digits a) (all_digits b) d, digits_room 0 (length b) a x (room_first n k));
+    }
 
-module _ (m a b : List ℕ) (e : a ≡ before is_point m) (f : b ≡ behind is_point m) where
-  not_few : few_digits (a ++ b) ≡ false → bad ≡ mantissa_of m
-  not_few n = sym (ap (λ (t : Bool). cond t (record { good = true; digits = value_of (a ++ b); places = length b }) bad) n) ∙ made_is m a b e f
+abbrev fits : Bool → Bool → ℕ → ℕ → Bool
+fits x y point places = x && y && ltb 0 (point + places) && leb (point + places) 17
 
-  pub bad_whole : all_digits a ≡ false → bad ≡ mantissa_of m
-  bad_whole n = not_few (few_is a b ∙ rw n)
+module _ (m a b : List ℕ) (point : ℕ) (x y : Bool) (p : (point ≡ stretch is_point m) × (point ≤ length m)) (a_is : a ≡ take point m) (b_is : b ≡ drop (suc point) m) (x_is : x ≡ all_digits a) (y_is : y ≡ all_digits b) where
+  before-is : a ≡ before is_point m
+  before-is = a_is ∙ ap (λ (n : ℕ). take n m) p.0
 
-  pub bad_part : all_digits b ≡ false → bad ≡ mantissa_of m
-  bad_part n = not_few (few_is a b ∙ rw (n, and_false (all_digits a)))
+  behind-is : b ≡ behind is_point m
+  behind-is = b_is ∙ ap (λ (n : ℕ). drop (suc n) m) p.0
 
-  pub no_digit : length a + length b ≡ 0 → bad ≡ mantissa_of m
-  no_digit n = not_few (few_is a b ∙ rw (le-ltb 0 (length a + length b) (omega arith), and_false (all_digits a && all_digits b)))
+  fits_are : fits x y point (length b) ≡ few_digits (a ++ b)
+  fits_are =
+      let l : point ≡ length a = sym (ap length a_is ∙ length-take-le point m p.1) in
+      rw (x_is, y_is, l) (sym (few_is a b))
 
-  pub many_digits : 17 < length a + length b → bad ≡ mantissa_of m
-  many_digits n = not_few (few_is a b ∙ rw (lt-leb (length a + length b) 17 n, and_false (all_digits a && all_digits b && ltb 0 (length a + length b))))
+  made_is : cond (few_digits (a ++ b)) (Some (record { digits = value_of (a ++ b); places = length b })) None ≡ mantissa_of m
+  unfolding mantissa_of
+  made_is = rw (before-is, behind-is)
 
-  module _ (x : all_digits a ≡ true) (y : all_digits b ≡ true) (some : (length a + length b ≡ 0 → ⊥)) (few : length a + length b ≤ 17) where
-    pub room_whole : Room 0 (length a)
-    room_whole = room_first (length a) (omega arith)
+  case-is : {t : Bool} → fits x y point (length b) ≡ t → cond t (Some (record { digits = value_of (a ++ b); places = length b })) None ≡ mantissa_of m
+  case-is e = ap (λ (t : Bool). cond t (Some (record { digits = value_of (a ++ b); places = length b })) None) (sym e ∙ fits_are) ∙ made_is
 
-    pub room-part : Room (value_from 0 a) (length b)
-    room-part = digits_room 0 (length b) a x (room_first (length a + length b) few)
+  pub no_mantissa : fits x y point (length b) ≡ false → None ≡ mantissa_of m
+  no_mantissa e = case-is e
 
-    pub good-digits : (v : ℕ) → v ≡ value_from (value_from 0 a) b → record { good = true; digits = v; places = length b } ≡ mantissa_of m
-    good-digits v g =
-        let t : few_digits (a ++ b) ≡ true = few_is a b ∙ rw (x, y, lt-ltb 0 (length a + length b) (positive (length a + length b) some), le-leb (length a + length b) 17 few) in
-        ap (λ (n : ℕ). record { good = true; digits = n; places = length b }) (g ∙ sym (value_append 0 a b))
-        ∙ sym (ap (λ (t : Bool). cond t (record { good = true; digits = value_of (a ++ b); places = length b }) bad) t)
-        ∙ made_is m a b e f
+  pub few : fits x y point (length b) ≡ true → Few a b
+  few e = few_true a b (sym fits_are ∙ e)
+
+  pub mantissa : fits x y point (length b) ≡ true → (v : ℕ) → v ≡ value_from (value_from 0 a) b → Some (record { digits = v; places = length b }) ≡ mantissa_of m
+  mantissa e v g = ap (λ (n : ℕ). Some (record { digits = n; places = length b })) (g ∙ sym (value_append 0 a b)) ∙ case-is e
 
 -- its bounds
-pub mantissa_range : (m : List ℕ) → ((mantissa_of m).digits < 10 ^ 17) × ((mantissa_of m).places ≤ 17)
+pub mantissa_range : (l : List ℕ) → IfSome {T = Mantissa} (mantissa_of l) (λ m. (m.digits < 10 ^ 17) × (m.places ≤ 17))
 unfolding mantissa_of
 mantissa_range m = go (few_digits (before is_point m ++ behind is_point m)) refl
   where
@@ -118,102 +102,101 @@ mantissa_range m = go (few_digits (before is_point m ++ behind is_point m)) refl
     b : List ℕ
     b = behind is_point m
 
-    go : (t : Bool) → few_digits (a ++ b) ≡ t → ((cond {A = Mantissa} t (record { good = true; digits = value_of (a ++ b); places = length b }) bad).digits < 10 ^ 17) × ((cond {A = Mantissa} t (record { good = true; digits = value_of (a ++ b); places = length b }) bad).places ≤ 17)
+    go : (t : Bool) → few_digits (a ++ b) ≡ t → IfSome {T = Mantissa} (cond t (Some (record { digits = value_of (a ++ b); places = length b })) None) (λ m. (m.digits < 10 ^ 17) × (m.places ≤ 17))
     go true e =
         let l = a ++ b in
         let d : all_digits l ≡ true = both_left (all_digits l) (ltb 0 (length l)) (both_left (all_digits l && ltb 0 (length l)) (leb (length l) 17) e) in
         let k : length l ≤ 17 = leb-true (length l) 17 (both_right (all_digits l && ltb 0 (length l)) (leb (length l) 17) e) in
         (room_small (value_of l) 0 (digits_room 0 0 l d (room_first (length l + 0) (omega arith))), omega (arith, length-append a b))
-    go false e = (lit< tt, lit≤ tt)
+    go false e = tt
 
--- ---- the exponent: x is its digits
+-- ---- the exponent: x is its digits, of which there are some where a flag says so
 
-module _ (l x : List ℕ) (e : x ≡ unsigned l) where
-  abbrev fine : Bool
-  fine = all_digits x && ltb 0 (length x) && leb (value_of x) 20
+and_false : (b : Bool) → (b && false) ≡ false
+and_false true = refl
+and_false false = refl
 
-  abbrev bad-exponent : Exponent
-  bad-exponent = record { good = false; negative = false; size = 0 }
+pub unsigned_is : {k : ℕ} (l : List ℕ) → k ≡ sign_length l → take (length l - k) (drop k l) ≡ unsigned l
+unsigned_is {k} l e = rest k l ∙ ap (λ (n : ℕ). drop n l) e
 
-  exponent_is : cond fine (record { good = true; negative = negated l; size = value_of x }) bad-exponent ≡ exponent_of l
+abbrev fine : List ℕ → Bool
+fine x = all_digits x && ltb 0 (length x) && leb (value_of x) 20
+
+module _ (l x : List ℕ) (e : x ≡ unsigned l) {y : Bool} (y_is : y ≡ all_digits x) where
+  some_is : (t : Bool) → (y && ltb 0 (length x)) ≡ t → (all_digits x && ltb 0 (length x)) ≡ t
+  some_is t n = ap (λ (b : Bool). b && ltb 0 (length x)) (sym y_is) ∙ n
+
+  fine-is : (t : Bool) → fine x ≡ t → cond t (Some (record { negative = negated l; size = value_of x })) None ≡ exponent_of l
   unfolding exponent_of
-  exponent_is = rw e
+  fine-is t f = ap (λ (t : Bool). cond t (Some (record { negative = negated l; size = value_of x })) None) (sym f) ∙ rw e
 
-  not_fine : fine ≡ false → bad-exponent ≡ exponent_of l
-  not_fine n = sym (ap (λ (t : Bool). cond t (record { good = true; negative = negated l; size = value_of x }) bad-exponent) n) ∙ exponent_is
+  pub none_there : (y && ltb 0 (length x)) ≡ false → None ≡ exponent_of l
+  none_there n = fine-is false (ap (λ (t : Bool). t && leb (value_of x) 20) (some_is false n))
 
-  pub bad_digits : all_digits x ≡ false → bad-exponent ≡ exponent_of l
-  bad_digits n = not_fine (rw n)
+  pub too_large : {s : ℕ} → s ≡ min 21 (value_of x) → 20 < s → None ≡ exponent_of l
+  too_large f n = fine-is false (rw (lt-leb (value_of x) 20 (omega arith), and_false (all_digits x && ltb 0 (length x))))
 
-  pub none_there : length x ≡ 0 → bad-exponent ≡ exponent_of l
-  none_there n = not_fine (rw (le-ltb 0 (length x) (omega arith), and_false (all_digits x)))
-
-  pub too_large : (s : ℕ) → s ≡ min 21 (value_of x) → 20 < s → bad-exponent ≡ exponent_of l
-  too_large s f n = not_fine (rw (lt-leb (value_of x) 20 (omega arith), and_false (all_digits x && ltb 0 (length x))))
-
-  pub good_exponent : (s : ℕ) (b : Bool) → all_digits x ≡ true → (length x ≡ 0 → ⊥) → s ≡ min 21 (value_of x) → s ≤ 20 → b ≡ negated l → record { good = true; negative = b; size = s } ≡ exponent_of l
-  good_exponent s b d n f k g =
+  pub good_exponent : {s : ℕ} {b : Bool} → (y && ltb 0 (length x)) ≡ true → s ≡ min 21 (value_of x) → s ≤ 20 → b ≡ negated l → Some (record { negative = b; size = s }) ≡ exponent_of l
+  good_exponent {s} n f k g =
       let v : s ≡ value_of x = omega arith in
-      let t : fine ≡ true = rw (d, lt-ltb 0 (length x) (positive (length x) n), le-leb (value_of x) 20 (omega arith)) in
-      rw (v, g) (sym (ap (λ (t : Bool). cond t (record { good = true; negative = negated l; size = value_of x }) bad-exponent) t) ∙ exponent_is)
+      rw (v, g) (fine-is true (rw (some_is true n, le-leb (value_of x) 20 (omega arith))))
 
-pub exponent_range : (l : List ℕ) → (exponent_of l).size ≤ 20
+exponent_range : (l : List ℕ) → IfSome {T = Exponent} (exponent_of l) (λ x. x.size ≤ 20)
 unfolding exponent_of
-exponent_range l = go (fine l (unsigned l) refl) refl
+exponent_range l = go (fine (unsigned l)) refl
   where
-    go : (t : Bool) → fine l (unsigned l) refl ≡ t → (cond {A = Exponent} t (record { good = true; negative = negated l; size = value_of (unsigned l) }) (record { good = false; negative = false; size = 0 })).size ≤ 20
+    go : (t : Bool) → fine (unsigned l) ≡ t → IfSome {T = Exponent} (cond t (Some (record { negative = negated l; size = value_of (unsigned l) })) None) (λ x. x.size ≤ 20)
     go true e = leb-true (value_of (unsigned l)) 20 (both_right (all_digits (unsigned l) && ltb 0 (length (unsigned l))) (leb (value_of (unsigned l)) 20) e)
-    go false e = omega arith
+    go false e = tt
+
+pub exponent-in-range : (l : List ℕ) → IfSome {T = Exponent} (exponent_in l) (λ x. x.size ≤ 20)
+unfolding exponent_in
+exponent-in-range l = go (ltb (stretch is_mark l) (length l))
+  where
+    go : (b : Bool) → IfSome {T = Exponent} (cond b (exponent_of (behind is_mark l)) (Some no_exponent)) (λ x. x.size ≤ 20)
+    go true = exponent_range (behind is_mark l)
+    go false = lit≤ tt
 
 -- ---- together
 
-module _ (minus : Bool) (m : Mantissa) (x : Exponent) where
-  pub not_both : (m.good && x.good) ≡ false → not_written ≡ joined_of minus m x
-  unfolding joined_of
-  not_both e = sym (rw e)
-
-  module _ (e : (m.good && x.good) ≡ true) where
-    pub down : x.negative ≡ true → record { good = true; minus = minus; digits = m.digits; negative = true; size = x.size + m.places } ≡ joined_of minus m x
-    unfolding joined_of
-    down g = sym (rw (e, g))
-
-    pub up : x.negative ≡ false → m.places ≤ x.size → record { good = true; minus = minus; digits = m.digits; negative = false; size = x.size - m.places } ≡ joined_of minus m x
-    unfolding joined_of
-    up g h = sym (rw (e, g, le-leb m.places x.size h))
-
-    pub behind-point : x.negative ≡ false → x.size < m.places → record { good = true; minus = minus; digits = m.digits; negative = true; size = m.places - x.size } ≡ joined_of minus m x
-    unfolding joined_of
-    behind-point g h = sym (rw (e, g, lt-leb m.places x.size h))
-
-pub joined_range : (minus : Bool) (m : Mantissa) (x : Exponent) → m.digits < 10 ^ 17 → m.places ≤ 17 → x.size ≤ 20 → Ranged (joined_of minus m x)
+joined_range : (minus : Bool) (m : Mantissa) (x : Exponent) → (m.digits < 10 ^ 17) × (m.places ≤ 17) → x.size ≤ 20 → Ranged (joined_of minus m x)
 unfolding joined_of
-joined_range minus m x d p s = go (m.good && x.good) x.negative (leb m.places x.size) refl
+joined_range minus m x d s = go x.negative (leb m.places x.size) refl
   where
-    go : (a b c : Bool) → leb m.places x.size ≡ c → Ranged (cond a (cond b (record { good = true; minus = minus; digits = m.digits; negative = true; size = x.size + m.places }) (cond c (record { good = true; minus = minus; digits = m.digits; negative = false; size = x.size - m.places }) (record { good = true; minus = minus; digits = m.digits; negative = true; size = m.places - x.size }))) not_written)
-    go true true c e = record { digits = d; places = omega arith; whole = λ f. absurd (false≢true (sym f)) }
-    go true false true e = record { digits = d; places = omega arith; whole = λ f. omega arith }
-    go true false false e = record { digits = d; places = omega arith; whole = λ f. absurd (false≢true (sym f)) }
-    go false b c e = record { digits = lit< tt; places = lit≤ tt; whole = λ f. lit≤ tt }
+    go : (b c : Bool) → leb m.places x.size ≡ c → Ranged (cond b (record { minus = minus; digits = m.digits; negative = true; size = x.size + m.places }) (cond c (record { minus = minus; digits = m.digits; negative = false; size = x.size - m.places }) (record { minus = minus; digits = m.digits; negative = true; size = m.places - x.size })))
+    go true c e = record { digits = d.0; places = omega (arith, d.1); whole = λ f. absurd (false≢true (sym f)) }
+    go false true e = record { digits = d.0; places = omega (arith, d.1); whole = λ f. omega arith }
+    go false false e = record { digits = d.0; places = omega (arith, d.1); whole = λ f. absurd (false≢true (sym f)) }
 
--- ---- whole words
+abbrev unsigned_at : List ℕ → ℕ → List ℕ
+unsigned_at w k = take (length w - k) (drop k w)
 
-module _ (w u : List ℕ) (minus : Bool) (m : Mantissa) (is-minus : minus ≡ negated w) (is-u : u ≡ unsigned w) where
-  pub with_exponent : (x : Exponent) → m ≡ mantissa_of (before is_mark u) → stretch is_mark u < length u → x ≡ exponent_of (behind is_mark u) → joined_of minus m x ≡ written_of w
-  unfolding written_of exponent_in
-  with_exponent x e h f = rw (f, e, is-minus, is-u) (sym (rw (lt-ltb (stretch is_mark (unsigned w)) (length (unsigned w)) (rw is-u at h))))
+module _ (w : List ℕ) {k n : ℕ} {m : Option Mantissa} (k_is : k ≡ sign_length w) (n_is : n ≡ stretch is_mark (unsigned_at w k)) (m_is : m ≡ mantissa_of (take n (unsigned_at w k))) where
+  mantissa-is : m ≡ mantissa_of (before is_mark (unsigned w))
+  mantissa-is = m_is ∙ ap (λ (i : ℕ). mantissa_of (take i (unsigned_at w k))) n_is ∙ ap (λ (u : List ℕ). mantissa_of (before is_mark u)) (unsigned_is w k_is)
 
-  pub without_exponent : m ≡ mantissa_of (before is_mark u) → length u ≤ stretch is_mark u → joined_of minus m no_exponent ≡ written_of w
-  unfolding written_of exponent_in
-  without_exponent e h = rw (e, is-minus, is-u) (sym (rw (le-ltb (stretch is_mark (unsigned w)) (length (unsigned w)) (rw is-u at h))))
+  pub without_mantissa : m ≡ None → None ≡ written_of w
+  unfolding written_of
+  without_mantissa e = sym (rw (sym mantissa-is ∙ e))
+
+  module _ {x : Option Exponent} (x_is : x ≡ exponent_in (unsigned_at w k)) {q : Mantissa} (some : m ≡ Some q) where
+    exponent-is : x ≡ exponent_in (unsigned w)
+    exponent-is = x_is ∙ ap exponent_in (unsigned_is w k_is)
+
+    pub without_exponent : x ≡ None → None ≡ written_of w
+    unfolding written_of
+    without_exponent e = sym (rw (sym mantissa-is ∙ some, sym exponent-is ∙ e))
+
+    pub with_exponent : {p : Exponent} {b : Bool} {v : Written} → x ≡ Some p → b ≡ negated w → v ≡ joined_of b q p → Some v ≡ written_of w
+    unfolding written_of
+    with_exponent e f g = rw (g, f) (sym (rw (sym mantissa-is ∙ some, sym exponent-is ∙ e)))
 
 -- what is written is in the range of decimals
-pub in_range : (w : List ℕ) → Ranged (written_of w)
-unfolding written_of exponent_in
-in_range w = go (ltb (stretch is_mark (unsigned w)) (length (unsigned w)))
+pub in_range : (w : List ℕ) → IfSome {T = Written} (written_of w) Ranged
+unfolding written_of
+in_range w = go (mantissa_of (before is_mark (unsigned w))) (exponent_in (unsigned w)) (mantissa_range (before is_mark (unsigned w))) (exponent-in-range (unsigned w))
   where
-    m : Mantissa
-    m = mantissa_of (before is_mark (unsigned w))
-
-    go : (b : Bool) → Ranged (joined_of (negated w) m (cond b (exponent_of (behind is_mark (unsigned w))) no_exponent))
-    go true = joined_range (negated w) m (exponent_of (behind is_mark (unsigned w))) (mantissa_range (before is_mark (unsigned w))).0 (mantissa_range (before is_mark (unsigned w))).1 (exponent_range (behind is_mark (unsigned w)))
-    go false = joined_range (negated w) m no_exponent (mantissa_range (before is_mark (unsigned w))).0 (mantissa_range (before is_mark (unsigned w))).1 (lit≤ tt)
+    go : (m : Option Mantissa) (x : Option Exponent) → IfSome {T = Mantissa} m (λ m. (m.digits < 10 ^ 17) × (m.places ≤ 17)) → IfSome {T = Exponent} x (λ x. x.size ≤ 20) → IfSome {T = Written} (both_of (negated w) m x) Ranged
+    go None x d s = tt
+    go (Some m) None d s = tt
+    go (Some m) (Some x) d s = joined_range (negated w) m x d s

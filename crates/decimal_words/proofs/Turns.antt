@@ -1,15 +1,17 @@
 -- Digits one at a time. Assumes nothing.
-use mathlib.Core.Path.{◌≡◌, refl, sym, ap, ◌∙◌, subst}
+use mathlib.Core.Path.{◌≡◌, refl, sym, ap, ◌∙◌}
 use mathlib.Core.Bool.{Bool, true, false, not, ◌&&◌, false≢true}
-use mathlib.Core.List.{List, [], ◌∷◌, ◌++◌}
-use Prim.Native.Nat.{ℕ, zero, suc, ◌+◌, ◌-◌, ◌*◌, ◌^◌, ◌≤◌, ◌<◌, min}
+use mathlib.Core.List.{List, [], ◌∷◌}
+use Prim.Native.Nat.{ℕ, suc, ◌+◌, ◌-◌, ◌*◌, ◌^◌, ◌≤◌, ◌<◌, min}
 use native.Mathlib.Nat.{le_trans, le_of_eq, mul-le-mul_right, mul_comm, mul_assoc, mul-one, pow-suc, pow-le-pow_right, one-le-pow}
 use native.Mathlib.Numerals.{add-one}
 use native.Mathlib.Omega.{arith}
-use lib.Dec.{T, leb, lit<, lit≤}
-use borrow.Author.Tests.{leb-true, leb-false, le-leb, lt-leb}
-use lib.ListN.{length, get_or, drop, drop_of_length-le, length-append}
+use lib.Dec.{leb, lit<}
+use borrow.Author.Tests.{leb-true}
+use lib.ListN.{length, get_or, drop, drop_of_length-le}
 use lib.Seq.{drop-cons}
+use Rattle.std.specs.Char.{is_ascii_digit}
+use Rattle.std.specs.List.{list_all}
 use Rattle.decimal_words.specs.Numbers.{is_digit, all_digits, value_from}
 use Rattle.decimal_words.specs.Room.{Room}
 
@@ -55,6 +57,12 @@ all_ended s i h = rw (drop_of_length-le s h)
 pub value_ended : (s : List ℕ) (i n : ℕ) → length s ≤ i → value_from n (drop i s) ≡ n
 unfolding value_from
 value_ended s i n h = rw (drop_of_length-le s h)
+
+-- std says the same by its own word
+pub all_is : (s : List ℕ) → list_all is_ascii_digit s ≡ all_digits s
+unfolding all_digits is_digit
+all_is [] = refl
+all_is (c ∷ cs) = ap (λ (b : Bool). is_digit c && b) (all_is cs)
 
 -- as invariants of loops from the first on
 pub record Checked (s : List ℕ) (i : ℕ) : Type 0 where

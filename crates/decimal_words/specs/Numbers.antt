@@ -1,5 +1,5 @@
 -- A number as a word: a sign or none; digits with a point among them or none; then, or not, an E with a sign or none and digits. Definitions only.
-use Rattle.std.specs.Prelude.{ℕ, suc, ◌+◌, ◌-◌, ◌*◌, Bool, true, false, cond, ◌&&◌, ◌||◌, List, [], ◌∷◌, ◌++◌, eqb, ltb, leb, length, take, drop, Float}
+use Rattle.std.specs.Prelude.{ℕ, suc, ◌+◌, ◌-◌, ◌*◌, Bool, true, false, cond, ◌&&◌, ◌||◌, List, [], ◌∷◌, ◌++◌, eqb, ltb, leb, length, take, drop, Option, Some, None, Float}
 use Rattle.std.specs.Float.{binary64}
 use Rattle.std.specs.Float.Ieee.{of_bits, neg}
 use Rattle.lines.specs.Lines.{stretch}
@@ -60,44 +60,45 @@ behind test l = drop (suc (stretch test l)) l
 abbrev pub few_digits : List ℕ → Bool
 few_digits l = all_digits l && ltb 0 (length l) && leb (length l) 17
 
-unfoldable pub mantissa_of : List ℕ → Mantissa
+unfoldable pub mantissa_of : List ℕ → Option Mantissa
 mantissa_of l =
     cond (few_digits (before is_point l ++ behind is_point l))
-    (record { good = true; digits = value_of (before is_point l ++ behind is_point l); places = length (behind is_point l) })
-    (record { good = false; digits = 0; places = 0 })
+    (Some (record { digits = value_of (before is_point l ++ behind is_point l); places = length (behind is_point l) }))
+    None
 
 -- one digit at least, and no more than 20
-unfoldable pub exponent_of : List ℕ → Exponent
+unfoldable pub exponent_of : List ℕ → Option Exponent
 exponent_of l =
     cond (all_digits (unsigned l) && ltb 0 (length (unsigned l)) && leb (value_of (unsigned l)) 20)
-    (record { good = true; negative = negated l; size = value_of (unsigned l) })
-    (record { good = false; negative = false; size = 0 })
+    (Some (record { negative = negated l; size = value_of (unsigned l) }))
+    None
 
 abbrev pub no_exponent : Exponent
-no_exponent = record { good = true; negative = false; size = 0 }
+no_exponent = record { negative = false; size = 0 }
 
-unfoldable pub exponent_in : List ℕ → Exponent
-exponent_in l = cond (ltb (stretch is_mark l) (length l)) (exponent_of (behind is_mark l)) no_exponent
+unfoldable pub exponent_in : List ℕ → Option Exponent
+exponent_in l = cond (ltb (stretch is_mark l) (length l)) (exponent_of (behind is_mark l)) (Some no_exponent)
 
 -- ---- together: the places behind the point count against the exponent
 
-abbrev pub not_written : Written
-not_written = record { good = false; minus = false; digits = 0; negative = false; size = 0 }
-
 unfoldable pub joined_of : Bool → Mantissa → Exponent → Written
 joined_of minus m x =
-    cond (m.good && x.good)
-    (cond x.negative
-    (record { good = true; minus = minus; digits = m.digits; negative = true; size = x.size + m.places })
+    cond x.negative
+    (record { minus = minus; digits = m.digits; negative = true; size = x.size + m.places })
     (cond (leb m.places x.size)
-    (record { good = true; minus = minus; digits = m.digits; negative = false; size = x.size - m.places })
-    (record { good = true; minus = minus; digits = m.digits; negative = true; size = m.places - x.size })))
-    not_written
+    (record { minus = minus; digits = m.digits; negative = false; size = x.size - m.places })
+    (record { minus = minus; digits = m.digits; negative = true; size = m.places - x.size }))
 
-unfoldable pub written_of : List ℕ → Written
-written_of w = joined_of (negated w) (mantissa_of (before is_mark (unsigned w))) (exponent_in (unsigned w))
+-- nothing where a part is none
+abbrev pub both_of : Bool → Option Mantissa → Option Exponent → Option Written
+both_of minus None x = None
+both_of minus (Some m) None = None
+both_of minus (Some m) (Some x) = Some (joined_of minus m x)
 
--- in the range of decimals, as every word's is
+unfoldable pub written_of : List ℕ → Option Written
+written_of w = both_of (negated w) (mantissa_of (before is_mark (unsigned w))) (exponent_in (unsigned w))
+
+-- in the range of decimals, as every number that a word spells is
 abbrev pub Ranged : Written → Type 0
 Ranged w = InRange w.digits w.negative w.size
 

@@ -4,4 +4,5 @@
 mod digits;
 mod written;
 
+pub use digits::{all_digits, value_from};
 pub use written::{Written, spelled_number, worth};

@@ -4,7 +4,7 @@ ghost use Rattle.std.specs.Float.Ieee.Nearest.{closest};
 ghost use Rattle.decimals.specs.Wide.{value};
 ghost use Rattle.decimals.specs.Parts.{Divided, PatternOf};
 
-use crate::wide::{Wide, at_most, digit_of, twice};
+use crate::wide::{Wide, digit_of};
 
 #[derive(Clone, Copy)]
 pub struct Raised {
@@ -19,11 +19,11 @@ fn raise(a: Wide, b: Wide) -> Raised
 {
     let mut w = a;
     let mut by: u64 = 0;
-    while at_most(w, b) {
-        w = twice(w);
+    while w.at_most(b) {
+        w = w.times(2);
         by += 1;
     }
-    Raised { wide: w, by: by }
+    Raised { wide: w, by }
 }
 
 // n * 2^53 / m, for an n below m: its whole part and what is left.
@@ -45,7 +45,7 @@ fn short_division(n: u64, m: u64) -> Division
     };
     Division {
         q: first / m * 0x800_0000 + second / m,
-        rest: rest,
+        rest,
     }
 }
 
@@ -55,14 +55,12 @@ fn long_division(n: Wide, m: Wide) -> Division
 {
     let mut rest = n;
     let mut q: u64 = 0;
-    let mut i: u64 = 0;
-    while i < 53 {
-        let next = digit_of(twice(rest), m);
+    for _ in 0..53u64 {
+        let next = digit_of(rest.times(2), m);
         rest = next.rest;
         q = q * 2 + next.digit;
-        i += 1;
     }
-    Division { q: q, rest: rest }
+    Division { q, rest }
 }
 
 fn divide(n: Wide, m: Wide) -> Division
@@ -83,9 +81,9 @@ fn quotient(n: Wide, m: Wide) -> u64
     ensures { (result ≡ closest (value n * 2 ^ 53) (value m)) × (result ≤ 2 ^ 53) }
 {
     let d = divide(n, m);
-    let t = twice(d.rest);
-    if at_most(m, t) {
-        if at_most(t, m) {
+    let t = d.rest.times(2);
+    if m.at_most(t) {
+        if t.at_most(m) {
             return d.q + d.q % 2;
         }
         return d.q + 1;

@@ -8,36 +8,28 @@ pub struct Wide {
     pub low: u64,
 }
 
-pub fn twice(a: Wide) -> Wide
-    requires { (a.low < 2 ^ 60) × (a.high < 2 ^ 60) }
-    ensures { (result.low < 2 ^ 60) × (value result ≡ 2 * value a) }
-{
-    let t = a.low * 2;
-    Wide {
-        high: a.high * 2 + t / 0x1000_0000_0000_0000,
-        low: t % 0x1000_0000_0000_0000,
+impl Wide {
+    // It, so many times: few enough that nothing overflows.
+    pub fn times(self, factor: u64) -> Wide
+        requires { (self.low < 2 ^ 60) × (self.high < 2 ^ 60) × (factor < 8) }
+        ensures { (result.low < 2 ^ 60) × (value result ≡ factor * value self) }
+    {
+        let t = self.low * factor;
+        Wide {
+            high: self.high * factor + t / 0x1000_0000_0000_0000,
+            low: t % 0x1000_0000_0000_0000,
+        }
     }
-}
 
-pub fn five_times(a: Wide) -> Wide
-    requires { (a.low < 2 ^ 60) × (a.high < 2 ^ 60) }
-    ensures { (result.low < 2 ^ 60) × (value result ≡ 5 * value a) }
-{
-    let t = a.low * 5;
-    Wide {
-        high: a.high * 5 + t / 0x1000_0000_0000_0000,
-        low: t % 0x1000_0000_0000_0000,
-    }
-}
-
-pub fn at_most(a: Wide, b: Wide) -> bool
-    requires { (a.low < 2 ^ 60) × (b.low < 2 ^ 60) }
-    ensures { result ≡ leb (value a) (value b) }
-{
-    if a.high == b.high {
-        a.low <= b.low
-    } else {
-        a.high < b.high
+    pub fn at_most(self, other: Wide) -> bool
+        requires { (self.low < 2 ^ 60) × (other.low < 2 ^ 60) }
+        ensures { result ≡ leb (value self) (value other) }
+    {
+        if self.high == other.high {
+            self.low <= other.low
+        } else {
+            self.high < other.high
+        }
     }
 }
 
@@ -62,10 +54,7 @@ pub fn digit_of(t: Wide, m: Wide) -> Digit
         high: high % 0x1000_0000_0000_0000,
         low: low % 0x1000_0000_0000_0000,
     };
-    Digit {
-        rest: rest,
-        digit: 1,
-    }
+    Digit { rest, digit: 1 }
 }
 
 // a * 5^k
@@ -74,10 +63,8 @@ pub fn with_fives(a: Wide, k: u64) -> Wide
     ensures { (result.low < 2 ^ 60) × (value result ≡ value a * 5 ^ k) }
 {
     let mut w = a;
-    let mut i: u64 = 0;
-    while i < k {
-        w = five_times(w);
-        i += 1;
+    for _ in 0..k {
+        w = w.times(5);
     }
     w
 }

@@ -6,7 +6,7 @@ ghost use Rattle.rowwise.specs.Rooms.{lends};
 ghost use Rattle.rowwise.specs.Evening.{evening_of};
 ghost use Rattle.desk_evening.specs.Told.{called_of, heard_of};
 
-use rowwise::{Called, Judging};
+use rowwise::Called;
 use tolerance::Limits;
 
 // Number and place of an evening's call.
@@ -33,21 +33,10 @@ pub extern "C" fn desk_evening(
     totals: &mut [f64],
     called: &mut [u64; 2],
 )
-    ensures { record { called = called.exit.now; lends = lends heads.new demands.new flows.new statuses.new «record».new counts.new totals.new scratch.new } ≡ heard_of (evening_of Judging.Off sheet.now rows table.now (lends heads.old demands.old flows.old statuses.old «record».old counts.old totals.old scratch.old)) }
+    ensures { record { called = called.exit.now; lends = lends heads.new demands.new flows.new statuses.new «record».new counts.new totals.new scratch.new } ≡ heard_of (evening_of None sheet.now rows table.now (lends heads.old demands.old flows.old statuses.old «record».old counts.old totals.old scratch.old)) }
 {
     let c = rowwise::solve_evening(
-        sheet,
-        Judging::Off,
-        rows,
-        table,
-        heads,
-        demands,
-        flows,
-        statuses,
-        record,
-        counts,
-        totals,
-        scratch,
+        sheet, None, rows, table, heads, demands, flows, statuses, record, counts, totals, scratch,
     );
     *called = called_of(c);
 }
@@ -72,7 +61,7 @@ pub extern "C" fn desk_evening_verdict(
     totals: &mut [f64],
     called: &mut [u64; 2],
 )
-    ensures { record { called = called.exit.now; lends = lends heads.new demands.new flows.new statuses.new «record».new counts.new totals.new scratch.new } ≡ heard_of (evening_of (Judging.By (record { pressure = pressure; head = head; flow = flow })) sheet.now rows table.now (lends heads.old demands.old flows.old statuses.old «record».old counts.old totals.old scratch.old)) }
+    ensures { record { called = called.exit.now; lends = lends heads.new demands.new flows.new statuses.new «record».new counts.new totals.new scratch.new } ≡ heard_of (evening_of (Some (record { pressure = pressure; head = head; flow = flow })) sheet.now rows table.now (lends heads.old demands.old flows.old statuses.old «record».old counts.old totals.old scratch.old)) }
 {
     let limits = Limits {
         pressure: pressure,
@@ -81,7 +70,7 @@ pub extern "C" fn desk_evening_verdict(
     };
     let c = rowwise::solve_evening(
         sheet,
-        Judging::By(limits),
+        Some(limits),
         rows,
         table,
         heads,

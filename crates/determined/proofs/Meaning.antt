@@ -12,8 +12,6 @@ use lib.Seq.{get_or-set_same, get_or-set_other}
 use lib.Ieee.{Float, nan}
 use Rattle.codes.specs.Codes.{status_of}
 use Rattle.layout.specs.declared.places.Layout.{Layout}
-use Rattle.found.specs.declared.Found.{Found}
-use Rattle.found.specs.declared.Found.TheVariants.{At, Nothing}
 use Rattle.nodes.specs.Nodes.{enabled, fixed_node, in_service}
 use Rattle.links.specs.Links.{link_of, link_start, link_end, EndsIn}
 use Rattle.links.proofs.Reading.{start_of, end_of}
@@ -24,12 +22,15 @@ use Rattle.reach.specs.Way.Way.{here as here-held, along as there-on, back as ba
 use Rattle.reach.specs.Way.Cut.{cut_off, whole}
 use Rattle.reach.proofs.Ways.{joined}
 use Rattle.reach.proofs.Search.{cut_in}
-use Rattle.determined.specs.Determined.{link_serves, joins_at, held_at, filled, with_mark, with_held, starts_of, ends_of, joins_of, held_of, needs_of, reached_of, undetermined_of}
+use Rattle.fills.specs.Fills.{filled}
+use Rattle.determined.specs.Determined.{link_serves, joins_at, held_at, with_mark, with_held, starts_of, ends_of, joins_of, held_of, needs_of, reached_of, undetermined_of}
 use Rattle.determined.specs.Joins.{Serves, Passes, Held, Joins, Undetermined, Determined}
 use Rattle.determined.specs.Joins.Held.{fixed, regulated}
 use Rattle.determined.specs.Joins.Joins.{here, along, back}
 use Rattle.determined.proofs.Laws.{other, held_end}
-use Rattle.determined.proofs.Columns.{filled_long, filled_at, filled_past, ends_fit, held_long}
+use Rattle.fills.proofs.Laws.{filled_long, filled_at, filled_past}
+use Rattle.determined.proofs.Columns.{ends_fit, held_long}
+use Rattle.std.specs.Prelude.{None, Option, Some}
 
 both_of : (x y : Bool) → (x && y) ≡ true → (x ≡ true) × (y ≡ true)
 both_of true y e = (refl, e)
@@ -45,23 +46,23 @@ at_or_past p i not_below = ⊎_elim (λ (g : i ≡ p). inl (sym g)) (λ g. inr g
 
 -- ---- one mark more
 
-mark_keeps : (f : Found) (m : List Bool) (i : ℕ) → i < length m → get_or m i false ≡ true → get_or (with_mark f m) i false ≡ true
+mark_keeps : (f : Option ℕ) (m : List Bool) (i : ℕ) → i < length m → get_or m i false ≡ true → get_or (with_mark f m) i false ≡ true
 unfolding with_mark
-mark_keeps Nothing m i b e = e
-mark_keeps (At p) m i b e = elim (ℕ_discrete i p) [
+mark_keeps None m i b e = e
+mark_keeps (Some p) m i b e = elim (ℕ_discrete i p) [
   | yes q ↦ subst (λ (k : ℕ). get_or (set m k true) i false ≡ true) q (get_or-set_same m i true false b)
   | no q ↦ get_or-set_other m p i true false q ∙ e
 ]
 
-mark_there : (f : Found) (m : List Bool) (i : ℕ) → i < length m → f ≡ At i → get_or (with_mark f m) i false ≡ true
+mark_there : (f : Option ℕ) (m : List Bool) (i : ℕ) → i < length m → f ≡ Some i → get_or (with_mark f m) i false ≡ true
 unfolding with_mark
 mark_there f m i b e = rw e (get_or-set_same m i true false b)
 
-mark_from : (f : Found) (m : List Bool) (i : ℕ) → get_or (with_mark f m) i false ≡ true → (f ≡ At i) ⊎ (get_or m i false ≡ true)
+mark_from : (f : Option ℕ) (m : List Bool) (i : ℕ) → get_or (with_mark f m) i false ≡ true → (f ≡ Some i) ⊎ (get_or m i false ≡ true)
 unfolding with_mark
-mark_from Nothing m i e = inr e
-mark_from (At p) m i e = elim (ℕ_discrete i p) [
-  | yes q ↦ inl (ap At (sym q))
+mark_from None m i e = inr e
+mark_from (Some p) m i e = elim (ℕ_discrete i p) [
+  | yes q ↦ inl (ap Some (sym q))
   | no q ↦ inr (sym (get_or-set_other m p i true false q) ∙ e)
 ]
 
@@ -73,21 +74,21 @@ module _ (s : List ℕ) (l : Layout) (c : List ℕ) where
   held_keeps zero m i b e = e
   held_keeps (suc k) m i b e = mark_keeps (held_at s l c k) (with_held s l c k m) i (rw held_long b) (held_keeps k m i b e)
 
-  held_there : (k : ℕ) (m : List Bool) (i j : ℕ) → i < length m → j < k → held_at s l c j ≡ At i → get_or (with_held s l c k m) i false ≡ true
+  held_there : (k : ℕ) (m : List Bool) (i j : ℕ) → i < length m → j < k → held_at s l c j ≡ Some i → get_or (with_held s l c k m) i false ≡ true
   unfolding with_held
   held_there zero m i j b h e = absurd (omega arith)
   held_there (suc k) m i j b h e =
       ⊎_elim
-      (λ (p : j ≡ k). mark_there (held_at s l c k) (with_held s l c k m) i (rw held_long b) (subst (λ (x : ℕ). held_at s l c x ≡ At i) p e))
+      (λ (p : j ≡ k). mark_there (held_at s l c k) (with_held s l c k m) i (rw held_long b) (subst (λ (x : ℕ). held_at s l c x ≡ Some i) p e))
       (λ (p : j < k). mark_keeps (held_at s l c k) (with_held s l c k m) i (rw held_long b) (held_there k m i j b p e))
       (eq-or-lt_of_le (le_of_suc-le-suc h))
 
-  held_from : (k : ℕ) (m : List Bool) (i : ℕ) → get_or (with_held s l c k m) i false ≡ true → (get_or m i false ≡ true) ⊎ ((j : ℕ) × ((j < k) × (held_at s l c j ≡ At i)))
+  held_from : (k : ℕ) (m : List Bool) (i : ℕ) → get_or (with_held s l c k m) i false ≡ true → (get_or m i false ≡ true) ⊎ ((j : ℕ) × ((j < k) × (held_at s l c j ≡ Some i)))
   unfolding with_held
   held_from zero m i e = inl e
   held_from (suc k) m i e =
       ⊎_elim
-      (λ (f : held_at s l c k ≡ At i). inr (k, (omega arith, f)))
+      (λ (f : held_at s l c k ≡ Some i). inr (k, (omega arith, f)))
       (λ f. ⊎_elim (λ (g : get_or m i false ≡ true). inl g) (λ w. inr (w.0, (omega (arith, w.1.0), w.1.1))) (held_from k m i f))
       (mark_from (held_at s l c k) (with_held s l c k m) i e)
 
@@ -101,15 +102,15 @@ module _ (s : List ℕ) (l : Layout) (c : List ℕ) where
   unfolding link_serves
   is_serving j w = rw (w.start, w.end)
 
-  held_in_service : (i j : ℕ) → held_at s l c j ≡ At i → (link_serves s l j ≡ true) × (holds_of (link_of s l j) (status_of (get_or c j 0)) ≡ At i)
+  held_in_service : (i j : ℕ) → held_at s l c j ≡ Some i → (link_serves s l j ≡ true) × (holds_of (link_of s l j) (status_of (get_or c j 0)) ≡ Some i)
   unfolding held_at
   held_in_service i j e = go (link_serves s l j) e
     where
-      go : (b : Bool) → cond b (holds_of (link_of s l j) (status_of (get_or c j 0))) Nothing ≡ At i → (b ≡ true) × (holds_of (link_of s l j) (status_of (get_or c j 0)) ≡ At i)
+      go : (b : Bool) → cond b (holds_of (link_of s l j) (status_of (get_or c j 0))) None ≡ Some i → (b ≡ true) × (holds_of (link_of s l j) (status_of (get_or c j 0)) ≡ Some i)
       go true f = (refl, f)
       go false f = other f
 
-  service_holds : (i j : ℕ) → Serves s l j → holds_of (link_of s l j) (status_of (get_or c j 0)) ≡ At i → held_at s l c j ≡ At i
+  service_holds : (i j : ℕ) → Serves s l j → holds_of (link_of s l j) (status_of (get_or c j 0)) ≡ Some i → held_at s l c j ≡ Some i
   unfolding held_at
   service_holds i j w e = rw (is_serving j w) e
 
@@ -187,7 +188,7 @@ module _ (s : List ℕ) (l : Layout) (q : List Float) (c : List ℕ) (ends : End
           let h : i < l.nodes = lt_of_not-le (λ (g : l.nodes ≤ i). true≢false (sym f ∙ filled_past (fixed_node s l) false l.nodes (replicate 64 false) i g ∙ none_in 64 i)) in
           fixed h (sym (fixed_at i h) ∙ f)
 
-      by-link : (j : ℕ) × ((j < l.links) × (held_at s l c j ≡ At i)) → Held s l c i
+      by-link : (j : ℕ) × ((j < l.links) × (held_at s l c j ≡ Some i)) → Held s l c i
       by-link w =
           let h = held_in_service s l c i w.0 w.1.1 in
           regulated w.0 (serves_is s l c w.0 w.1.0 h.0) h.1
@@ -220,14 +221,14 @@ module _ (s : List ℕ) (l : Layout) (q : List Float) (c : List ℕ) (ends : End
   unfolding undetermined_of reached_of
   cut = cut_in (needs_of s l) (reached_of s l q c) (starts_of s l) (ends_of s l) (joins_of s l q c) l.links l.nodes (held_of s l c) (joined (starts_of s l) (ends_of s l) (joins_of s l q c) l.links l.nodes fit (held_of s l c) held_fits)
 
-  abbrev CutAt : Found → Type 0
+  abbrev CutAt : Option ℕ → Type 0
   CutAt u = Cut (starts_of s l) (ends_of s l) (joins_of s l q c) l.links l.nodes (held_of s l c) (needs_of s l) u
 
   -- Where a node was found, it is the lowest junction in service with no way to it.
-  pub undetermined_is : (i : ℕ) → undetermined_of s l q c ≡ At i → Undetermined s l q c i
+  pub undetermined_is : (i : ℕ) → undetermined_of s l q c ≡ Some i → Undetermined s l q c i
   undetermined_is i e = go (subst CutAt e cut)
     where
-      go : CutAt (At i) → Undetermined s l q c i
+      go : CutAt (Some i) → Undetermined s l q c i
       go (cut_off p b n without low) =
           record {
             below = b;
@@ -237,25 +238,25 @@ module _ (s : List ℕ) (l : Layout) (q : List Float) (c : List ℕ) (ends : End
           }
 
   -- Where none was found, there is a way to each.
-  pub determined_is : undetermined_of s l q c ≡ Nothing → Determined s l q c
+  pub determined_is : undetermined_of s l q c ≡ None → Determined s l q c
   determined_is e = go (subst CutAt e cut)
     where
-      go : CutAt Nothing → Determined s l q c
+      go : CutAt None → Determined s l q c
       go (whole all) = record { way = λ h g f. joins (all h g (needs_at h g ∙ f)) }
 
   -- And in no other case.
-  pub undetermined_only : (i : ℕ) → Undetermined s l q c i → undetermined_of s l q c ≡ At i
+  pub undetermined_only : (i : ℕ) → Undetermined s l q c i → undetermined_of s l q c ≡ Some i
   undetermined_only i w = go (undetermined_of s l q c) refl
     where
-      go : (f : Found) → undetermined_of s l q c ≡ f → f ≡ At i
-      go (At p) e =
+      go : (f : Option ℕ) → undetermined_of s l q c ≡ f → f ≡ Some i
+      go (Some p) e =
           let v = undetermined_is p e in
-          ⊎_elim (λ (g : p ≡ i). ap At g) (λ (g : i < p). absurd (w.none (v.lower i g w.serves))) (at_or_past p i (λ h. v.none (w.lower p h v.serves)))
-      go Nothing e = absurd (w.none ((determined_is e).way i w.below w.serves))
+          ⊎_elim (λ (g : p ≡ i). ap Some g) (λ (g : i < p). absurd (w.none (v.lower i g w.serves))) (at_or_past p i (λ h. v.none (w.lower p h v.serves)))
+      go None e = absurd (w.none ((determined_is e).way i w.below w.serves))
 
-  pub determined_only : Determined s l q c → undetermined_of s l q c ≡ Nothing
+  pub determined_only : Determined s l q c → undetermined_of s l q c ≡ None
   determined_only w = go (undetermined_of s l q c) refl
     where
-      go : (f : Found) → undetermined_of s l q c ≡ f → f ≡ Nothing
-      go (At p) e = let v = undetermined_is p e in absurd (v.none (w.way p v.below v.serves))
-      go Nothing e = refl
+      go : (f : Option ℕ) → undetermined_of s l q c ≡ f → f ≡ None
+      go (Some p) e = let v = undetermined_is p e in absurd (v.none (w.way p v.below v.serves))
+      go None e = refl

@@ -1,11 +1,10 @@
 -- Line 3 of the verdict: which links of a sheet conduct and which nodes are held as an answer has it, and the lowest junction in service that no way joins to a held one. Definitions only.
-use Rattle.std.specs.Prelude.{ℕ, zero, suc, ◌<◌, ◌≡◌, Bool, true, false, cond, ◌&&◌, List, get_or, set, replicate, Float}
+use Rattle.std.specs.Prelude.{ℕ, zero, suc, ◌<◌, ◌≡◌, Bool, true, false, cond, ◌&&◌, List, get_or, set, replicate, Float, None, Option, Some}
 use Rattle.std.specs.Float.{nan}
 use Rattle.codes.specs.Codes.{status_of}
 use Rattle.layout.specs.declared.places.Layout.{Layout}
 use Rattle.found.specs.Searches.{first_of}
-use Rattle.found.specs.declared.Found.{Found}
-use Rattle.found.specs.declared.Found.TheVariants.{At, Nothing}
+use Rattle.fills.specs.Fills.{filled}
 use Rattle.nodes.specs.Nodes.{enabled, fixed_node, in_service}
 use Rattle.links.specs.Links.{link_of, link_start, link_end}
 use Rattle.conducting.specs.Conducting.{conducts_of, holds_of}
@@ -21,19 +20,14 @@ unfolding link_serves
 joins_at s l q c j = link_serves s l j && conducts_of (link_of s l j) (status_of (get_or c j 0)) (get_or q j nan)
 
 -- the node that it holds, where it is in service
-unfoldable pub held_at : List ℕ → Layout → List ℕ → ℕ → Found
+unfoldable pub held_at : List ℕ → Layout → List ℕ → ℕ → Option ℕ
 unfolding link_serves
-held_at s l c j = cond (link_serves s l j) (holds_of (link_of s l j) (status_of (get_or c j 0))) Nothing
-
--- a column whose first n entries are given by their number
-unfoldable pub filled : {A : Type 0} → (ℕ → A) → ℕ → List A → List A
-filled f zero x = x
-filled f (suc i) x = set (filled f i x) i (f i)
+held_at s l c j = cond (link_serves s l j) (holds_of (link_of s l j) (status_of (get_or c j 0))) None
 
 -- a node that was found is marked
-unfoldable pub with_mark : Found → List Bool → List Bool
-with_mark (At i) m = set m i true
-with_mark Nothing m = m
+unfoldable pub with_mark : Option ℕ → List Bool → List Bool
+with_mark (Some i) m = set m i true
+with_mark None m = m
 
 -- and so are those that the first j links hold
 unfoldable pub with_held : List ℕ → Layout → List ℕ → ℕ → List Bool → List Bool
@@ -42,8 +36,8 @@ with_held s l c zero m = m
 with_held s l c (suc j) m = with_mark (held_at s l c j) (with_held s l c j m)
 
 -- a place that was found is below n
-pub record FoundBelow (n : ℕ) (f : Found) : Type 0 where
-  pub below : (i : ℕ) → f ≡ At i → i < n
+pub record FoundBelow (n : ℕ) (f : Option ℕ) : Type 0 where
+  pub below : (i : ℕ) → f ≡ Some i → i < n
 
 -- the columns: where each link starts and ends, whether it joins its ends; which nodes are held, and which need a way
 unfoldable pub starts_of : List ℕ → Layout → List ℕ
@@ -71,6 +65,6 @@ unfoldable pub reached_of : List ℕ → Layout → List Float → List ℕ → 
 unfolding starts_of ends_of joins_of held_of
 reached_of s l q c = sweeps (starts_of s l) (ends_of s l) (joins_of s l q c) l.links l.nodes (held_of s l c)
 
-unfoldable pub undetermined_of : List ℕ → Layout → List Float → List ℕ → Found
+unfoldable pub undetermined_of : List ℕ → Layout → List Float → List ℕ → Option ℕ
 unfolding needs_of reached_of
 undetermined_of s l q c = first_of (lacks (needs_of s l) (reached_of s l q c)) l.nodes

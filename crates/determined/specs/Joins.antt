@@ -1,9 +1,8 @@
 -- What line 3 of the verdict means, by the sheet: a way along links that conduct, from a node whose head is given. Definitions only.
-use Rattle.std.specs.Prelude.{ℕ, ◌<◌, ◌≡◌, true, List, get_or, Float}
+use Rattle.std.specs.Prelude.{ℕ, ◌<◌, ◌≡◌, true, List, get_or, Float, Some}
 use Rattle.std.specs.Float.{nan}
 use Rattle.codes.specs.Codes.{status_of}
 use Rattle.layout.specs.declared.places.Layout.{Layout}
-use Rattle.found.specs.declared.Found.TheVariants.{At}
 use Rattle.nodes.specs.Nodes.{enabled, fixed_node, in_service}
 use Rattle.links.specs.Links.{link_of, link_start, link_end}
 use Rattle.conducting.specs.Conducting.{conducts_of, holds_of}
@@ -24,7 +23,7 @@ pub record Passes (s : List ℕ) (l : Layout) (q : List Float) (c : List ℕ) (j
 -- the head of node i is given: it is a reservoir or a tank, or a link in service holds it
 pub data Held (s : List ℕ) (l : Layout) (c : List ℕ) : ℕ → Type 0 where
   fixed : {i : ℕ} → i < l.nodes → fixed_node s l i ≡ true → Held s l c i
-  regulated : {i : ℕ} (j : ℕ) → Serves s l j → holds_of (link_of s l j) (status_of (get_or c j 0)) ≡ At i → Held s l c i
+  regulated : {i : ℕ} (j : ℕ) → Serves s l j → holds_of (link_of s l j) (status_of (get_or c j 0)) ≡ Some i → Held s l c i
 
 -- a way to node i: none is needed where its head is given; and a way goes on along a link, to its end or back to its start
 pub data Joins (s : List ℕ) (l : Layout) (q : List Float) (c : List ℕ) : ℕ → Type 0 where

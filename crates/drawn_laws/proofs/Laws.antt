@@ -9,8 +9,6 @@ use Rattle.float.specs.Order.{clamp_of}
 use Rattle.roots.specs.Root.{root_of}
 use Rattle.layout.specs.declared.places.Layout.{Layout}
 use Rattle.found.specs.Searches.{first_of}
-use Rattle.found.specs.declared.Found.{Found}
-use Rattle.found.specs.declared.Found.TheVariants.{Nothing}
 use Rattle.records.specs.Records.{pressures_of}
 use Rattle.records.specs.declared.records.Node.{Node}
 use Rattle.records.specs.declared.records.Pressures.{Pressures}
@@ -20,6 +18,7 @@ use Rattle.nodes.specs.Nodes.{node_of, in_service}
 use Rattle.drawing.specs.Drawing.{gives_way, range_of}
 use Rattle.tolerance.specs.Within.{within_of}
 use Rattle.drawn_laws.specs.DrawnLaws.{fair_share, surplus_at, ill_at, first_ill, ill_drawn}
+use Rattle.std.specs.Prelude.{None, Option}
 
 pub share_of : (demand head elevation minimum range part r : Float) → part ≡ clamp_of (over (minus (minus head elevation) minimum) range) constant.zero constant.one → r ≡ root_of part
     → times demand r ≡ fair_share demand head elevation minimum range
@@ -42,10 +41,10 @@ module _ (s : List ℕ) (l : Layout) (p : Pressures) (heads drawn : List Float) 
   ill_first flow = refl
 
 module _ (s : List ℕ) (l : Layout) (heads drawn : List Float) (flow : Float) where
-  pub ill_pressures : (p : Pressures) (r : Found) → l.pressures ≡ true → p ≡ pressures_of s → r ≡ first_ill s l p heads drawn flow → r ≡ ill_drawn s l heads drawn flow
+  pub ill_pressures : (p : Pressures) (r : Option ℕ) → l.pressures ≡ true → p ≡ pressures_of s → r ≡ first_ill s l p heads drawn flow → r ≡ ill_drawn s l heads drawn flow
   unfolding ill_drawn
   ill_pressures p r t ep e = rw (e, ep, t)
 
-  pub ill_none : l.pressures ≡ false → Nothing ≡ ill_drawn s l heads drawn flow
+  pub ill_none : l.pressures ≡ false → None ≡ ill_drawn s l heads drawn flow
   unfolding ill_drawn
   ill_none t = rw t

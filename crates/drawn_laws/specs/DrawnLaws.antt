@@ -1,12 +1,10 @@
 -- Line 7 of the verdict: the drawn flow that is not what the node's pressure lets it draw. Definitions only.
-use Rattle.std.specs.Prelude.{ℕ, Bool, cond, not, ◌&&◌, List, get_or, Float}
+use Rattle.std.specs.Prelude.{ℕ, Bool, cond, not, ◌&&◌, List, get_or, Float, None, Option}
 use Rattle.std.specs.Float.{nan}
 use Rattle.float.specs.Order.{clamp_of}
 use Rattle.roots.specs.Root.{root_of}
 use Rattle.layout.specs.declared.places.Layout.{Layout}
 use Rattle.found.specs.Searches.{first_of}
-use Rattle.found.specs.declared.Found.{Found}
-use Rattle.found.specs.declared.Found.TheVariants.{Nothing}
 use Rattle.records.specs.Records.{pressures_of}
 use Rattle.records.specs.declared.records.Pressures.{Pressures}
 use Rattle.constants.specs.Arithmetic.{minus, times, over}
@@ -32,11 +30,11 @@ unfolding surplus_at
 ill_at s l p heads drawn flow i = gives_way (in_service s l i) (node_of s l i).demand && not (within_of (surplus_at s l p heads drawn i) flow)
 
 -- the lowest node that does so, under these pressures
-unfoldable pub first_ill : List ℕ → Layout → Pressures → List Float → List Float → Float → Found
+unfoldable pub first_ill : List ℕ → Layout → Pressures → List Float → List Float → Float → Option ℕ
 unfolding ill_at
 first_ill s l p heads drawn flow = first_of (ill_at s l p heads drawn flow) l.nodes
 
 -- where a PD stands
-unfoldable pub ill_drawn : List ℕ → Layout → List Float → List Float → Float → Found
+unfoldable pub ill_drawn : List ℕ → Layout → List Float → List Float → Float → Option ℕ
 unfolding first_ill
-ill_drawn s l heads drawn flow = cond l.pressures (first_ill s l (pressures_of s) heads drawn flow) Nothing
+ill_drawn s l heads drawn flow = cond l.pressures (first_ill s l (pressures_of s) heads drawn flow) None

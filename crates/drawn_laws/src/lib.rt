@@ -7,11 +7,11 @@ ghost use Rattle.drawn_laws.specs.DrawnLaws.{fair_share, surplus_at, ill_at, fir
 
 use drawing::{gives_way, pressure_range};
 use float::clamp;
-use found::Found;
 use layout::Layout;
 use nodes::{elevation, in_service, node};
 use records::{Pressures, pressures_of};
 use roots::root;
+use search::first_where;
 use tolerance::within;
 
 // What a demand draws at a head: none of it at minimum pressure or below, all of it a range above,
@@ -63,27 +63,22 @@ fn first_ill(
     heads: &[f64],
     drawn: &[f64],
     flow: f64,
-) -> Found
+) -> Option<usize>
     requires laid { Laid l sheet.now }
     requires nodes_in_bounds { (l.nodes ≤ length heads.now) × (l.nodes ≤ length drawn.now) }
     ensures { result ≡ first_ill sheet.now l p heads.now drawn.now flow }
 {
-    for i in 0..l.nodes {
-        if is_ill(sheet, l, p, i, heads, drawn, flow) {
-            return Found::At(i);
-        }
-    }
-    Found::Nothing
+    first_where(l.nodes, |i| is_ill(sheet, l, p, i, heads, drawn, flow))
 }
 
 // The lowest node that does so, where a PD stands.
-pub fn ill_drawn(sheet: &[u8], l: Layout, heads: &[f64], drawn: &[f64], flow: f64) -> Found
+pub fn ill_drawn(sheet: &[u8], l: Layout, heads: &[f64], drawn: &[f64], flow: f64) -> Option<usize>
     requires laid { Laid l sheet.now }
     requires nodes_in_bounds { (l.nodes ≤ length heads.now) × (l.nodes ≤ length drawn.now) }
     ensures { result ≡ ill_drawn sheet.now l heads.now drawn.now flow }
 {
     if !l.pressures {
-        return Found::Nothing;
+        return None;
     }
     first_ill(sheet, l, pressures_of(sheet), heads, drawn, flow)
 }

@@ -8,6 +8,7 @@ use causes::Flip;
 use damping::Damping;
 use links::LinkIndex;
 use nodes::NodeIndex;
+use std::ops::ControlFlow;
 
 // What a trial came to: VF, GN, SG, NF, ST (with the damping of the next trial) and OK, both with the
 // first change of status.
@@ -31,11 +32,7 @@ pub enum Ended {
 }
 
 // Whether there is a trial after an entry.
-#[derive(Clone, Copy)]
-pub enum Going {
-    On(Damping),
-    Over(Ended),
-}
+pub type Going = ControlFlow<Ended, Damping>;
 
 #[derive(Clone, Copy)]
 pub struct Tally {
@@ -59,12 +56,12 @@ pub fn go(e: Entry, d: Damping) -> Going
     ensures { result ≡ going_of d e }
 {
     match e {
-        Entry::Freed(_) => Going::On(d),
-        Entry::Grounded(_) => Going::On(d),
-        Entry::Singular(n) => Going::Over(Ended::Failed(n)),
-        Entry::Wild(p) => Going::Over(Ended::Strayed(p)),
-        Entry::Stepped(next, _) => Going::On(next),
-        Entry::Converged(_) => Going::Over(Ended::Balanced),
+        Entry::Freed(_) => ControlFlow::Continue(d),
+        Entry::Grounded(_) => ControlFlow::Continue(d),
+        Entry::Singular(n) => ControlFlow::Break(Ended::Failed(n)),
+        Entry::Wild(p) => ControlFlow::Break(Ended::Strayed(p)),
+        Entry::Stepped(next, _) => ControlFlow::Continue(next),
+        Entry::Converged(_) => ControlFlow::Break(Ended::Balanced),
     }
 }
 

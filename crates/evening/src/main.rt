@@ -5,45 +5,24 @@
 // that is cut gives a line `X` and is the last.
 #![tactic(auto)]
 
-ghost use Rattle.std.specs.Prelude.{◌≤◌, length};
-
-use rowwise::Judging;
 use std::io;
 use std::io::{Read, Write};
 use std::process::ExitCode;
-
-// The number of the first four bytes.
-fn number_in(head: &[u8]) -> u64
-    requires { 4 ≤ length head.now }
-{
-    patterns::two_bytes(head, 0) + 65536 * patterns::two_bytes(head, 2)
-}
 
 // One evening, or false where the input has ended or is not in this form.
 fn step<R: Read, W: Write>(reader: &mut R, writer: &mut W) -> io::Result<bool> {
     let mut head = [0u8; 8];
     let mut buffer = [0u8; 65536];
-    let next = standard::next_sheet(reader, writer, &mut head, &mut buffer)?;
-    if next.none {
+    let Some(size) = standard::next_sheet(reader, writer, &mut head, &mut buffer)? else {
         return Ok(false);
-    }
-    let rows = number_in(&head);
-    let size = next.size;
-    rows_out::show_rows(reader, writer, &buffer[..size], Judging::Off, rows as usize)
-}
-
-fn run(rt: &HostRuntime) -> io::Result<()> {
-    let mut reader = rt.stdin();
-    let mut writer = rt.stdout();
-    for _ in 0..u64::MAX {
-        if !step(&mut reader, &mut writer)? {
-            return Ok(());
-        }
-    }
-    Ok(())
+    };
+    let rows = standard::four_bytes(&head, 0) as usize;
+    rows_out::show_rows(reader, writer, &buffer[..size], None, rows)
 }
 
 fn main(rt: HostRuntime) -> ExitCode {
-    let done = run(&rt);
+    let mut reader = rt.stdin();
+    let mut writer = rt.stdout();
+    let done = standard::take_steps(u64::MAX, || step(&mut reader, &mut writer));
     standard::ended(&rt, done)
 }

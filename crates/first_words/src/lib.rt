@@ -2,24 +2,23 @@
 #![tactic(auto)]
 
 ghost use Rattle.std.specs.Prelude.{◌≡◌};
-ghost use Rattle.line_words.specs.Words.{words_of};
-ghost use Rattle.word_places.specs.Places.{Words};
 ghost use Rattle.first_words.specs.First.{names_good, pair_is};
 
 use line_fields::{is_keyword, is_name};
+use word_places::LineWords;
 
 // A link's name and those of its two nodes.
-pub fn names_good(line: &[u8], places: &[usize; 20]) -> bool
-    requires { Words line.now places.now }
-    ensures { result ≡ names_good (words_of line.now) }
+#[tactic(auto, unfolding(crate::specs::First::names_good))]
+pub fn names_good(words: &LineWords<'_>) -> bool
+    ensures { result ≡ names_good words.now }
 {
-    is_name(line, places, 0) & is_name(line, places, 1) & is_name(line, places, 2)
+    is_name(words, 0) & is_name(words, 1) & is_name(words, 2)
 }
 
 // Whether the first two words are these.
-pub fn is_pair(line: &[u8], places: &[usize; 20], first: &[u8], second: &[u8]) -> bool
-    requires { Words line.now places.now }
-    ensures { result ≡ pair_is (words_of line.now) first.now second.now }
+#[tactic(auto, unfolding(crate::specs::First::pair_is))]
+pub fn is_pair(words: &LineWords<'_>, first: &[u8], second: &[u8]) -> bool
+    ensures { result ≡ pair_is words.now first.now second.now }
 {
-    is_keyword(line, places, 0, first) & is_keyword(line, places, 1, second)
+    is_keyword(words, 0, first) & is_keyword(words, 1, second)
 }

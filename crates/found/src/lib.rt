@@ -1,9 +1,2 @@
-// What a search finds.
+// No code: what it is to be the first number that a test holds of stands in specs/, its theorems in proofs/.
 #![tactic(auto)]
-
-// A place, or nothing.
-#[derive(Clone, Copy)]
-pub enum Found {
-    At(usize),
-    Nothing,
-}

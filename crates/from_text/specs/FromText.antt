@@ -1,7 +1,9 @@
 -- An EPANET text made into a sheet and a list of names (document 02, [1]): its answer, and what is lent afterwards. Definitions only.
-use Rattle.std.specs.Prelude.{ℕ, cond, ◌||◌, List, eqb, ltb, length}
+use Rattle.std.specs.Prelude.{ℕ, cond, ◌||◌, List, ⊤, Result, Ok, Err, ltb, length}
 use Rattle.words.specs.Buffer.{placed}
-use Rattle.known.specs.Known.{Known, Surveyed, survey_of}
+use Rattle.known.specs.Known.{Known, survey_of}
+use Rattle.known.specs.declared.Refused.{Refused}
+use Rattle.line_fields.specs.Fields.{number_of}
 use Rattle.text_sheet.specs.Sheet.{sheet_of, names_of}
 use Rattle.from_text.specs.declared.Taken.{Taken}
 
@@ -25,11 +27,13 @@ put_of x sheet names =
       names = placed names 0 (names_of x);
     })
 
-unfoldable pub after_survey : Surveyed → List ℕ → List ℕ → FromText
+-- a line that is refused, with its number
+unfoldable pub after_survey : Result ⊤ Refused → Known → List ℕ → List ℕ → FromText
 unfolding put_of
-after_survey v sheet names = cond (eqb v.number 0) (put_of v.known sheet names) (record { taken = refused v.number v.line; sheet = sheet; names = names })
+after_survey (Ok d) x sheet names = put_of x sheet names
+after_survey (Err r) x sheet names = record { taken = refused (number_of r.fault) r.line; sheet = sheet; names = names }
 
 -- the first line that is refused, with 10, 11 or 12; then 5; else the sheet and the names
 unfoldable pub from_text : List ℕ → List ℕ → List ℕ → FromText
 unfolding after_survey
-from_text t sheet names = after_survey (survey_of t) sheet names
+from_text t sheet names = after_survey (survey_of t).told (survey_of t).known sheet names

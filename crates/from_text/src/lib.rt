@@ -1,11 +1,12 @@
 // An EPANET text made into a sheet and a list of names, for any bytes and any buffers (document 02, [1]).
 #![tactic(auto)]
 
-ghost use Rattle.std.specs.Prelude.{◌≡◌};
-ghost use Rattle.known.specs.Tables.{known_of, Tabled};
-ghost use Rattle.from_text.specs.FromText.{put_of, from_text};
+ghost use Rattle.std.specs.Prelude.{◌≡◌, leb, length};
+ghost use Rattle.text_sheet.specs.Sheet.{names_of};
+ghost use Rattle.from_text.specs.FromText.{refused, put_of, from_text};
 
 use known::Progress;
+use named_lines::NamedLine;
 use survey::survey;
 use text_sheet::{put_names, put_sheet, room_behind, sheet_length};
 
@@ -22,11 +23,11 @@ pub struct Taken {
 }
 
 fn refused(number: usize, place: usize) -> Taken
-    ensures { result ≡ record { number = number; place = place; nodes = 0; links = 0; bytes = 0; names = 0 } }
+    ensures { result ≡ refused number place }
 {
     Taken {
-        number: number,
-        place: place,
+        number,
+        place,
         nodes: 0,
         links: 0,
         bytes: 0,
@@ -34,37 +35,33 @@ fn refused(number: usize, place: usize) -> Taken
     }
 }
 
-// The sheet and the names of what is known, if both fit.
-fn put_known(
-    text: &[u8],
-    nodes: &[usize],
-    links: &[usize],
-    p: Progress,
-    sheet: &mut [u8],
-    names: &mut [u8],
-) -> Taken
-    requires { Tabled text.now nodes.now links.now p }
-    ensures { record { taken = result; sheet = sheet.new; names = names.new } ≡ put_of (known_of text.now nodes.now links.now p) sheet.old names.old }
+// Whether the names of nodes and links fit into so many bytes.
+fn names_fit(known: &Progress<'_>, room: usize) -> bool
+    ensures { result ≡ leb (length (names_of known.now.known)) room }
 {
-    let n = p.nodes;
-    let k = p.links;
-    let bytes = sheet_length(p);
-    let room = names.len();
-    let behind_nodes = room_behind(text, nodes, n, room);
-    let behind_links = room_behind(text, links, k, behind_nodes.left);
-    let fit = behind_nodes.fits & behind_links.fits;
-    if (sheet.len() < bytes) | !fit {
+    match room_behind(&known.nodes, room) {
+        Some(left) => room_behind(&known.links, left).is_some(),
+        None => false,
+    }
+}
+
+// The sheet and the names of what is known, if both fit.
+fn put_known(known: &Progress<'_>, sheet: &mut [u8], names: &mut [u8]) -> Taken
+    ensures { record { taken = result; sheet = sheet.new; names = names.new } ≡ put_of known.now.known sheet.old names.old }
+{
+    let bytes = sheet_length(known);
+    if (sheet.len() < bytes) | !names_fit(known, names.len()) {
         return refused(5, 6);
     }
-    put_sheet(text, nodes, links, p, sheet);
-    let end = put_names(text, nodes, n, names, 0);
-    let size = put_names(text, links, k, names, end);
+    put_sheet(known, sheet);
+    let end = put_names(&known.nodes, names, 0);
+    let size = put_names(&known.links, names, end);
     Taken {
         number: 0,
         place: 0,
-        nodes: n,
-        links: k,
-        bytes: bytes,
+        nodes: known.nodes.len(),
+        links: known.links.len(),
+        bytes,
         names: size,
     }
 }
@@ -73,12 +70,11 @@ fn put_known(
 pub fn from_text(text: &[u8], sheet: &mut [u8], names: &mut [u8]) -> Taken
     ensures { record { taken = result; sheet = sheet.new; names = names.new } ≡ from_text text.now sheet.old names.old }
 {
-    let mut nodes = [0usize; 2560];
-    let mut links = [0usize; 5120];
+    let mut nodes = [NamedLine::default(); 512];
+    let mut links = [NamedLine::default(); 1024];
     let v = survey(text, &mut nodes, &mut links);
-    let number = v.number as usize;
-    if number != 0 {
-        return refused(number, v.line);
+    match v.told {
+        Ok(()) => put_known(&v.known, sheet, names),
+        Err(at) => refused(u64::from(at.fault) as usize, at.line),
     }
-    put_known(text, &nodes, &links, v.found, sheet, names)
 }

@@ -7,17 +7,25 @@ use Rattle.entries.specs.declared.Tally.{Tally}
 use Rattle.state.specs.State.{State, state}
 use Rattle.answers.specs.Answers.{failed_of}
 use Rattle.answers.specs.declared.Answer.{Answer}
+use Rattle.held.specs.declared.Told.{Told}
+use Rattle.held.specs.declared.Told.TheVariants.{More, Answered, Refused}
 use Rattle.held.specs.declared.Taken.{Taken}
+
+-- what a call tells has its number
+abbrev pub told_number : Told → ℕ
+told_number More = 0
+told_number Answered = 1
+told_number Refused = 2
 
 -- what a call tells: more trials are to be taken, with the counts so far; the answer; a refusal
 abbrev pub more : Tally → Taken
-more t = record { how = 0; answer = failed_of 0 0 t }
+more t = record { how = More; answer = failed_of 0 0 t }
 
 abbrev pub answered : Answer → Taken
-answered a = record { how = 1; answer = a }
+answered a = record { how = Answered; answer = a }
 
 abbrev pub refusal : ℕ → ℕ → Taken
-refusal number place = record { how = 2; answer = failed_of number place none }
+refusal number place = record { how = Refused; answer = failed_of number place none }
 
 -- six columns, five sums (damping factor, previous change, total demand, total supply, error) and six counts (what the last call told, number, place, trials, freed, grounded)
 pub record Held : Type 0 where
@@ -75,7 +83,7 @@ unfoldable pub sums_of : Damping → Answer → List Float
 sums_of d a = d.factor ∷ d.previous ∷ a.demand ∷ a.supply ∷ a.error ∷ []
 
 unfoldable pub counts_of : Taken → List ℕ
-counts_of t = t.how ∷ t.answer.number ∷ t.answer.place ∷ t.answer.trials ∷ t.answer.freed ∷ t.answer.grounded ∷ []
+counts_of t = told_number t.how ∷ t.answer.number ∷ t.answer.place ∷ t.answer.trials ∷ t.answer.freed ∷ t.answer.grounded ∷ []
 
 -- a state, the damping of the next trial and what the call told
 unfoldable pub held_of : State → Damping → Taken → Held

@@ -2,17 +2,37 @@
 #![tactic(auto)]
 
 ghost use Rattle.std.specs.Prelude.{◌≡◌};
-ghost use Rattle.held.specs.Held.{sums_of, counts_of, more, refusal};
+ghost use Rattle.held.specs.Held.{told_number, sums_of, counts_of, more, refusal};
 
 use answers::{Answer, failed};
 use damping::Damping;
 use entries::Tally;
 
-// What a call tells: 0, a trial was taken or is to be taken, and more follow; 1, the answer; 2, refused,
-// and nothing changed. Of 0 the counts are those so far.
+// What a call tells: a trial was taken or is to be taken, and more follow; the answer; or refused, and
+// nothing changed.
+#[derive(Clone, Copy, Debug, PartialEq, Eq)]
+pub enum Told {
+    More,
+    Answered,
+    Refused,
+}
+
+impl From<Told> for u64 {
+    ghost from_gives = { λ told number. number ≡ told_number told };
+
+    fn from(told: Told) -> u64 {
+        match told {
+            Told::More => 0,
+            Told::Answered => 1,
+            Told::Refused => 2,
+        }
+    }
+}
+
+// What a call told, and its answer: where more follow, the counts so far.
 #[derive(Clone, Copy)]
 pub struct Taken {
-    pub how: usize,
+    pub how: Told,
     pub answer: Answer,
 }
 
@@ -21,7 +41,7 @@ pub fn more(tally: Tally) -> Taken
     ensures { result ≡ more tally }
 {
     Taken {
-        how: 0,
+        how: Told::More,
         answer: failed(0, 0, tally),
     }
 }
@@ -36,7 +56,7 @@ pub fn refused(number: usize, place: usize) -> Taken
         grounded: 0,
     };
     Taken {
-        how: 2,
+        how: Told::Refused,
         answer: failed(number, place, none),
     }
 }
@@ -53,7 +73,7 @@ pub fn counts_of(t: Taken) -> [u64; 6]
     ensures { result ≡ counts_of t }
 {
     [
-        t.how as u64,
+        u64::from(t.how),
         t.answer.number as u64,
         t.answer.place as u64,
         t.answer.trials as u64,

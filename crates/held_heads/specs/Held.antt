@@ -1,9 +1,8 @@
 -- Line 6 of the verdict: the Active PRV or PSV that does not hold its node at its set head. Definitions only.
-use Rattle.std.specs.Prelude.{ℕ, Bool, not, ◌&&◌, List, eqb, get_or, Float}
+use Rattle.std.specs.Prelude.{ℕ, Bool, not, ◌&&◌, List, eqb, get_or, Float, Option}
 use Rattle.std.specs.Float.{nan}
 use Rattle.layout.specs.declared.places.Layout.{Layout}
 use Rattle.found.specs.Searches.{first_of}
-use Rattle.found.specs.declared.Found.{Found}
 use Rattle.codes.specs.declared.LinkKind.{LinkKind}
 use Rattle.codes.specs.declared.LinkKind.TheVariants.{Pipe, Prv, Psv, Pbv, Fcv, Tcv, Pcv}
 use Rattle.constants.specs.Arithmetic.{plus, minus}
@@ -44,6 +43,6 @@ unfolding holds_at miss_of
 misses_at s l heads codes head j = holds_at s l codes j && not (within_of (miss_of s l heads j) head)
 
 -- the lowest link that does so
-unfoldable pub unheld_of : List ℕ → Layout → List Float → List ℕ → Float → Found
+unfoldable pub unheld_of : List ℕ → Layout → List Float → List ℕ → Float → Option ℕ
 unfolding misses_at
 unheld_of s l heads codes head = first_of (misses_at s l heads codes head) l.links

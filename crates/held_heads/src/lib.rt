@@ -6,14 +6,13 @@ ghost use Rattle.layout.specs.Places.{Laid};
 ghost use Rattle.links.specs.Links.{EndsIn};
 ghost use Rattle.held_heads.specs.Held.{held_by, holds_at, miss_of, misses_at, unheld_of};
 
-use found::Found;
+use codes::Status;
 use layout::Layout;
 use links::{is_regulator, link, link_end, link_start};
 use nodes::{elevation, is_enabled};
 use records::LinkKind;
+use search::first_where;
 use tolerance::within;
-
-const ACTIVE: u8 = 2;
 
 // The node that a regulator of this kind holds: a PRV its end, a PSV its start.
 fn held_by(kind: LinkKind, start: usize, end: usize) -> usize
@@ -35,7 +34,7 @@ fn holds(sheet: &[u8], l: Layout, j: usize, statuses: &[u8]) -> bool
     let start = link_start(sheet, l, j);
     let end = link_end(sheet, l, j);
     let serves = is_enabled(sheet, l, start) & is_enabled(sheet, l, end);
-    is_regulator(sheet, l, j) & ((statuses[j] == ACTIVE) & serves)
+    is_regulator(sheet, l, j) & ((statuses[j] == u8::from(Status::Active)) & serves)
 }
 
 // How far the held node's head is above its set head, which is the setting above its elevation.
@@ -64,16 +63,11 @@ fn misses(sheet: &[u8], l: Layout, j: usize, heads: &[f64], statuses: &[u8], hea
 }
 
 // The lowest link that does so.
-pub fn unheld(sheet: &[u8], l: Layout, heads: &[f64], statuses: &[u8], head: f64) -> Found
+pub fn unheld(sheet: &[u8], l: Layout, heads: &[f64], statuses: &[u8], head: f64) -> Option<usize>
     requires laid { Laid l sheet.now }
     requires ends_in { EndsIn l sheet.now }
     requires links_in_bounds { (l.links ≤ length statuses.now) × (l.nodes ≤ length heads.now) }
     ensures { result ≡ unheld_of sheet.now l heads.now statuses.now head }
 {
-    for j in 0..l.links {
-        if misses(sheet, l, j, heads, statuses, head) {
-            return Found::At(j);
-        }
-    }
-    Found::Nothing
+    first_where(l.links, |j| misses(sheet, l, j, heads, statuses, head))
 }

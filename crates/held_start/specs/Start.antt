@@ -1,9 +1,7 @@
 -- The start of a solve that is taken one trial at a time. Definitions only.
-use Rattle.std.specs.Prelude.{ℕ, List}
+use Rattle.std.specs.Prelude.{ℕ, List, Err, Ok}
 use Rattle.refusals.specs.Refusals.{number_of, place_of}
-use Rattle.sheet.specs.Read.{read_of}
-use Rattle.sheet.specs.declared.reading.Reading.{Reading}
-use Rattle.sheet.specs.declared.reading.Reading.TheVariants.{Good, Refused}
+use Rattle.sheet.specs.Read.{read_of, Reading}
 use Rattle.entries.specs.Entries.{damping_start, none}
 use Rattle.solver.specs.Solve.{start_of}
 use Rattle.held.specs.Held.{Held, held_of, more, refusal}
@@ -15,8 +13,8 @@ pub record Started : Type 0 where
   pub held : Held
 
 unfoldable pub start_read : List ℕ → Held → Reading → Started
-start_read s h (Refused r) = record { taken = refusal (number_of r) (place_of r); held = h }
-start_read s h (Good l) = record { taken = more none; held = held_of (start_of s l) damping_start (more none) }
+start_read s h (Err r) = record { taken = refusal (number_of r) (place_of r); held = h }
+start_read s h (Ok l) = record { taken = more none; held = held_of (start_of s l) damping_start (more none) }
 
 unfoldable pub start_held : List ℕ → Held → Started
 unfolding start_read

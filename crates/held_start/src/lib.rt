@@ -7,7 +7,6 @@ ghost use Rattle.held_start.specs.Start.{start_held};
 
 use entries::Tally;
 use held::{Taken, keep, more, refused};
-use sheet::Reading;
 
 // Starts the solve of any sheet: its state, and that trials are to be taken; or a refusal, 1 to 4,
 // and nothing changes.
@@ -25,8 +24,8 @@ pub fn start(
     ensures { record { taken = result; held = held h.new d.new f.new q.new c.new z.new sums.new counts.new } ≡ start_held sheet.now (held h.old d.old f.old q.old c.old z.old sums.old counts.old) }
 {
     match sheet::read(sheet) {
-        Reading::Refused(r) => refused(refusals::refusal_number(r), refusals::refusal_place(r)),
-        Reading::Good(l) => {
+        Err(r) => refused(refusals::refusal_number(r), refusals::refusal_place(r)),
+        Ok(l) => {
             starts::start_columns(sheet, l, h, d, f, q, c);
             *z = [0u8; 64];
             let none = Tally {

@@ -2,75 +2,103 @@
 #![tactic(auto)]
 
 ghost use Rattle.std.specs.Prelude.{◌≡◌, ◌<◌};
-ghost use Rattle.line_words.specs.Words.{words_of};
-ghost use Rattle.word_places.specs.Places.{Words};
-ghost use Rattle.line_fields.specs.Fields.{name_at, number_at, number_or_none, value_at, value_or_zero, keyword_at, fault_of};
+ghost use Rattle.line_fields.specs.Fields.{name_at, number_at, number_or_none, value_at, value_or_zero, keyword_at, fault_of, number_of};
 
 use decimal_words::{spelled_number, worth};
 use spelled::spells;
-use word_places::{has_word, word};
+use word_places::LineWords;
+
+// Why a line is refused: it cannot be read, it names what is not carried, or it begins a section that is not carried.
+#[derive(Clone, Copy, PartialEq, Eq, Debug)]
+pub enum LineFault {
+    Unreadable,
+    Unknown,
+    Section,
+}
+
+// The number that a text is refused with for such a line.
+impl From<LineFault> for u64 {
+    fn from(fault: LineFault) -> u64
+        ensures { result ≡ number_of fault }
+    {
+        match fault {
+            LineFault::Unreadable => 10,
+            LineFault::Unknown => 11,
+            LineFault::Section => 12,
+        }
+    }
+}
 
 // Whether word k is short enough for a name.
-pub fn is_name(line: &[u8], places: &[usize; 20], k: usize) -> bool
-    requires { Words line.now places.now × (k < 10) }
-    ensures { result ≡ name_at (words_of line.now) k }
+#[tactic(auto, unfolding(crate::specs::Fields::name_at))]
+pub fn is_name(words: &LineWords<'_>, k: usize) -> bool
+    requires { k < 10 }
+    ensures { result ≡ name_at words.now k }
 {
-    word(line, places, k).len() <= 31
+    words.word(k).len() <= 31
 }
 
 // Whether word k spells a number.
-pub fn is_number(line: &[u8], places: &[usize; 20], k: usize) -> bool
-    requires { Words line.now places.now × (k < 10) }
-    ensures { result ≡ number_at (words_of line.now) k }
+#[tactic(auto, unfolding(crate::specs::Fields::number_at))]
+pub fn is_number(words: &LineWords<'_>, k: usize) -> bool
+    requires { k < 10 }
+    ensures { result ≡ number_at words.now k }
 {
-    let w = spelled_number(word(line, places, k));
-    w.good
+    spelled_number(words.word(k)).is_some()
 }
 
 // Whether word k spells a number or is not there.
-pub fn is_number_or_none(line: &[u8], places: &[usize; 20], k: usize) -> bool
-    requires { Words line.now places.now × (k < 10) }
-    ensures { result ≡ number_or_none (words_of line.now) k }
+#[tactic(auto, unfolding(crate::specs::Fields::number_or_none))]
+pub fn is_number_or_none(words: &LineWords<'_>, k: usize) -> bool
+    requires { k < 10 }
+    ensures { result ≡ number_or_none words.now k }
 {
-    !has_word(line, places, k) | is_number(line, places, k)
+    !words.has(k) | is_number(words, k)
 }
 
 // The f64 that word k spells; 0.0 where it spells none.
-pub fn number_at(line: &[u8], places: &[usize; 20], k: usize) -> f64
-    requires { Words line.now places.now × (k < 10) }
-    ensures { result ≡ value_at (words_of line.now) k }
+#[tactic(auto, unfolding(crate::specs::Fields::value_at))]
+pub fn number_at(words: &LineWords<'_>, k: usize) -> f64
+    requires { k < 10 }
+    ensures { result ≡ value_at words.now k }
 {
-    worth(spelled_number(word(line, places, k)))
+    match spelled_number(words.word(k)) {
+        Some(w) => worth(w),
+        None => 0.0,
+    }
 }
 
 // The f64 that word k spells, or 0.0 where it is not there.
-pub fn number_or_zero(line: &[u8], places: &[usize; 20], k: usize) -> f64
-    requires { Words line.now places.now × (k < 10) }
-    ensures { result ≡ value_or_zero (words_of line.now) k }
+#[tactic(auto, unfolding(crate::specs::Fields::value_or_zero))]
+pub fn number_or_zero(words: &LineWords<'_>, k: usize) -> f64
+    requires { k < 10 }
+    ensures { result ≡ value_or_zero words.now k }
 {
-    if has_word(line, places, k) {
-        return number_at(line, places, k);
+    if words.has(k) {
+        return number_at(words, k);
     }
     0.0
 }
 
 // Whether word k is the keyword, which is given in capitals.
-pub fn is_keyword(line: &[u8], places: &[usize; 20], k: usize, keyword: &[u8]) -> bool
-    requires { Words line.now places.now × (k < 10) }
-    ensures { result ≡ keyword_at (words_of line.now) k keyword.now }
+#[tactic(auto, unfolding(crate::specs::Fields::keyword_at))]
+pub fn is_keyword(words: &LineWords<'_>, k: usize, keyword: &[u8]) -> bool
+    requires { k < 10 }
+    ensures { result ≡ keyword_at words.now k keyword.now }
 {
-    spells(word(line, places, k), keyword)
+    spells(words.word(k), keyword)
 }
 
-// 10 for a line that cannot be read, 11 for one that names what is not carried, else 0.
-pub fn fault(good: bool, unknown: bool) -> u64
+// A line that cannot be read is not asked for names.
+#[tactic(auto, unfolding(crate::specs::Fields::fault_of))]
+pub fn fault(good: bool, unknown: bool) -> Result<(), LineFault>
     ensures { result ≡ fault_of good unknown }
 {
     if !good {
-        return 10;
+        return Err(LineFault::Unreadable);
     }
     if unknown {
-        return 11;
+        return Err(LineFault::Unknown);
     }
-    0
+    Ok(())
 }

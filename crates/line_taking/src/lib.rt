@@ -1,207 +1,67 @@
 // What a line that is not refused makes known.
 #![tactic(auto)]
 
-ghost use Rattle.std.specs.Prelude.{◌≡◌, [], ◌∷◌, ◌++◌, ◌+◌, ◌*◌, ◌<◌, ◌≤◌, length};
-ghost use Rattle.lines.specs.Lines.{passage, line_at};
-ghost use Rattle.line_words.specs.Words.{words_of};
-ghost use Rattle.line_fields.specs.Fields.{word_in};
-ghost use Rattle.word_places.specs.Places.{Words};
-ghost use Rattle.named_lines.specs.Named.{Kept, position_of, rows_of, settled_by};
-ghost use Rattle.known.specs.Known.{named, data_fault, data_taken, line_fault, line_taken, pipe_kind_of};
-ghost use Rattle.known.specs.Tables.{known_of, Tabled};
+ghost use Rattle.std.specs.Prelude.{◌≡◌, Ok, ◌≤◌, length};
+ghost use Rattle.named_lines.specs.Named.{words_from};
+ghost use Rattle.known.specs.Known.{data_fault, data_taken, line_fault, line_taken, pipe_kind};
 
 use known::Progress;
-use named_lines::{position, put_row, settle};
+use named_lines::Kind;
 use option_settings::with_option;
-use pipe_lines::pipe_status;
+use pipe_lines::{PipeStatus, pipe_status};
 use section_names::{Section, is_header, section_of};
-use text_settings::Settings;
 use valve_lines::valve_kind;
-use word_places::{has_word, word};
+use word_places::LineWords;
 
-// The line from `at` on, by its name, put behind the n rows of a table.
-fn keep(
-    text: &[u8],
-    line: &[u8],
-    places: &[usize; 20],
-    at: usize,
-    kind: usize,
-    n: usize,
-    rows: &mut [usize],
-)
-    requires words { Words line.now places.now × Kept text.now rows.old n }
-    requires at_in_bounds { (at ≤ length text.now) × (line.now ≡ passage at (line_at text.now at).end text.now) }
-    requires n_in_bounds { 5 * n + 5 ≤ length rows.old }
-    ensures rows { rows_of text.now rows.new (n + 1) ≡ rows_of text.now rows.old n ++ (named kind (words_of line.now) ∷ []) }
-    ensures kept { Kept text.now rows.new (n + 1) }
-    ensures long { length rows.new ≡ length rows.old }
+#[tactic(auto, unfolding(known::specs::Known::pipe_kind))]
+fn pipe_kind(status: PipeStatus) -> Kind
+    ensures { result ≡ pipe_kind status }
 {
-    let from = at + places[0];
-    let to = at + places[1];
-    put_row(rows, n, at, from, to, kind);
-}
-
-// The link that a line of STATUS names, settled by it.
-fn set_link(
-    text: &[u8],
-    line: &[u8],
-    places: &[usize; 20],
-    at: usize,
-    count: usize,
-    links: &mut [usize],
-)
-    requires words { Words line.now places.now × Kept text.now links.old count }
-    requires at_in_bounds { (at ≤ length text.now) × (line.now ≡ passage at (line_at text.now at).end text.now) }
-    requires count_bound { position_of (word_in (words_of line.now) 0) (rows_of text.now links.old count) < count }
-    ensures rows { rows_of text.now links.new count ≡ settled_by (position_of (word_in (words_of line.now) 0) (rows_of text.now links.old count)) (words_of line.now) (rows_of text.now links.old count) }
-    ensures kept { Kept text.now links.new count }
-    ensures long { length links.new ≡ length links.old }
-{
-    let j = position(text, links, count, word(line, places, 0));
-    settle(links, j, at);
-}
-
-// How far it is with one node more.
-fn with_node(p: Progress) -> Progress
-    requires { p.nodes < 512 }
-    ensures { result ≡ record { section = p.section; settings = p.settings; nodes = p.nodes + 1; links = p.links } }
-{
-    let section = p.section;
-    let settings = p.settings;
-    Progress {
-        section: section,
-        settings: settings,
-        nodes: p.nodes + 1,
-        links: p.links,
+    match status {
+        PipeStatus::Checked => Kind::CheckedPipe,
+        _ => Kind::Pipe,
     }
 }
 
-// How far it is with one link more.
-fn with_link(p: Progress) -> Progress
-    requires { p.links < 1024 }
-    ensures { result ≡ record { section = p.section; settings = p.settings; nodes = p.nodes; links = p.links + 1 } }
+// The line from `at` on, which is no header.
+#[tactic(auto, unfolding(known::specs::Known::data_fault, known::specs::Known::data_taken, known::specs::Known::with_node, known::specs::Known::with_link, known::specs::Known::name_fault, known::specs::Known::setting_fault, known::specs::Known::is_known, named_lines::specs::Named::found_at, named_lines::specs::Named::with_line, named_lines::specs::Named::with_settled))]
+fn take_data(known: &mut Progress<'_>, words: &LineWords<'_>, at: usize)
+    requires at_in_bounds { at ≤ length known.old.text }
+    requires words { words.now ≡ words_from known.old.text at }
+    requires faultless { data_fault known.old.known.section known.old.known words.now ≡ Ok tt }
+    ensures { known.new ≡ record { text = known.old.text; known = data_taken known.old.known.section known.old.known words.now } }
 {
-    let section = p.section;
-    let settings = p.settings;
-    Progress {
-        section: section,
-        settings: settings,
-        nodes: p.nodes,
-        links: p.links + 1,
-    }
-}
-
-// How far it is in another section.
-fn in_section(p: Progress, section: Section) -> Progress
-    ensures { result ≡ record { section = section; settings = p.settings; nodes = p.nodes; links = p.links } }
-{
-    let settings = p.settings;
-    Progress {
-        section: section,
-        settings: settings,
-        nodes: p.nodes,
-        links: p.links,
-    }
-}
-
-// How far it is with other options.
-fn with_settings(p: Progress, settings: Settings) -> Progress
-    ensures { result ≡ record { section = p.section; settings = settings; nodes = p.nodes; links = p.links } }
-{
-    let section = p.section;
-    Progress {
-        section: section,
-        settings: settings,
-        nodes: p.nodes,
-        links: p.links,
-    }
-}
-
-// 0, or 7 for a pipe with a check valve.
-fn pipe_kind(line: &[u8], places: &[usize; 20]) -> usize
-    requires { Words line.now places.now }
-    ensures { result ≡ pipe_kind_of (words_of line.now) }
-{
-    if pipe_status(line, places) == 2 {
-        return 7;
-    }
-    0
-}
-
-// A line that is no header.
-fn take_data(
-    text: &[u8],
-    line: &[u8],
-    places: &[usize; 20],
-    at: usize,
-    p: Progress,
-    nodes: &mut [usize],
-    links: &mut [usize],
-) -> Progress
-    requires words { Words line.now places.now × Tabled text.now nodes.old links.old p }
-    requires at_in_bounds { (at ≤ length text.now) × (line.now ≡ passage at (line_at text.now at).end text.now) }
-    requires line_value { data_fault p.section (known_of text.now nodes.old links.old p) (words_of line.now) ≡ 0 }
-    ensures known { known_of text.now nodes.new links.new result ≡ data_taken p.section (known_of text.now nodes.old links.old p) (words_of line.now) }
-    ensures tabled { Tabled text.now nodes.new links.new result }
-{
-    let section = p.section;
-    match section {
-        Section::Junctions => {
-            keep(text, line, places, at, 0, p.nodes, nodes);
-            with_node(p)
-        }
-        Section::Reservoirs => {
-            keep(text, line, places, at, 1, p.nodes, nodes);
-            with_node(p)
-        }
-        Section::Tanks => {
-            keep(text, line, places, at, 2, p.nodes, nodes);
-            with_node(p)
-        }
-        Section::Pipes => {
-            let kind = pipe_kind(line, places);
-            keep(text, line, places, at, kind, p.links, links);
-            with_link(p)
-        }
-        Section::Valves => {
-            let kind = valve_kind(line, places) as usize;
-            keep(text, line, places, at, kind, p.links, links);
-            with_link(p)
-        }
+    match known.section {
+        Section::Junctions => known.nodes.put(at, Kind::Junction),
+        Section::Reservoirs => known.nodes.put(at, Kind::Reservoir),
+        Section::Tanks => known.nodes.put(at, Kind::Tank),
+        Section::Pipes => known.links.put(at, pipe_kind(pipe_status(words))),
+        Section::Valves => known.links.put(at, Kind::Valve(valve_kind(words))),
         Section::Status => {
-            set_link(text, line, places, at, p.links, links);
-            p
+            if let Some(j) = known.links.position(words.word(0)) {
+                known.links.settle(j, at);
+            }
         }
-        Section::Options => {
-            let settings = p.settings;
-            with_settings(p, with_option(line, places, settings))
-        }
-        Section::Before | Section::Passed | Section::Other => p,
+        Section::Options => known.settings = with_option(words, known.settings),
+        Section::Before | Section::Passed | Section::Other => {}
     }
 }
 
-// Any line; a header begins its section.
-pub fn take_line(
-    text: &[u8],
-    line: &[u8],
-    places: &[usize; 20],
-    at: usize,
-    p: Progress,
-    nodes: &mut [usize],
-    links: &mut [usize],
-) -> Progress
-    requires words { Words line.now places.now × Tabled text.now nodes.old links.old p }
-    requires at_in_bounds { (at ≤ length text.now) × (line.now ≡ passage at (line_at text.now at).end text.now) }
-    requires line_value { line_fault (known_of text.now nodes.old links.old p) (words_of line.now) ≡ 0 }
-    ensures known { known_of text.now nodes.new links.new result ≡ line_taken (known_of text.now nodes.old links.old p) (words_of line.now) }
-    ensures tabled { Tabled text.now nodes.new links.new result }
+// The line from `at` on; a header begins its section.
+#[tactic(auto, unfolding(known::specs::Known::line_fault, known::specs::Known::line_taken))]
+pub fn take_line(known: &mut Progress<'_>, words: &LineWords<'_>, at: usize)
+    requires at_in_bounds { at ≤ length known.old.text }
+    requires words { words.now ≡ words_from known.old.text at }
+    requires faultless { line_fault known.old.known words.now ≡ Ok tt }
+    ensures { known.new ≡ record { text = known.old.text; known = line_taken known.old.known words.now } }
 {
-    if !has_word(line, places, 0) {
-        return p;
+    if !words.has(0) {
+        return;
     }
-    let first = word(line, places, 0);
+    let first = words.word(0);
     if is_header(first) {
-        return in_section(p, section_of(first));
+        known.section = section_of(first);
+        return;
     }
-    take_data(text, line, places, at, p, nodes, links)
+    take_data(known, words, at);
 }

@@ -9,14 +9,17 @@ use native.Mathlib.Omega.{arith}
 use lib.Dec.{eqb, ltb}
 use borrow.Author.Tests.{lt-ltb, le-ltb, eq-eqb, ne_eqb, eqb-true, eqb-false, ltb-true, ltb-false}
 use lib.ListN.{length, get_or, take, drop, length-drop, drop_of_length-le, get_or-eq_default}
-use lib.Seq.{drop-drop, get_or-drop, drop-cons, length-take-le}
-use Rattle.lines.specs.Lines.{onto, pieces, passage, stretch}
+use lib.Seq.{drop-drop, get_or-drop, drop-cons}
+use Rattle.lines.specs.Lines.{pieces, passage, stretch}
 use Rattle.lines.proofs.Stretches.{ends}
 use Rattle.lines.proofs.Lines.{stretch_within}
 use Rattle.line_words.specs.declared.Word.{Word}
 use Rattle.line_words.specs.Words.{is_blank, is_comment, before_comment, filled, words_of, not_blank, ends_word, word_from, word_at}
 
 -- ---- the cases of `wordFrom`
+
+pub none_past : (l : List ℕ) (start : ℕ) → length l ≤ start → get_or l start 0 ≡ 59 → ⊥
+none_past l start h e = let z : ◌≡◌ {A = ℕ} 0 59 = sym (get_or-eq_default l 0 h) ∙ e in absurd (omega arith)
 
 module _ (l : List ℕ) (at start : ℕ) (is : start ≡ at + stretch not_blank (drop at l)) where
   pub at_comment : get_or l start 0 ≡ 59 → record { start = length l; end = length l } ≡ word_from l at
@@ -27,9 +30,8 @@ module _ (l : List ℕ) (at start : ℕ) (is : start ≡ at + stretch not_blank 
   unfolding word_from is_comment
   at_word end n e = sym (rw (sym is, ne_eqb (get_or l start 0) 59 n, sym e))
 
-  pub at_end : length l ≤ start → record { start = start; end = start } ≡ word_from l at
-  at_end h =
-      at_word start (λ e. let z : ◌≡◌ {A = ℕ} 0 59 = sym (get_or-eq_default l 0 h) ∙ e in absurd (omega arith)) (omega (arith, ends ends_word l start h))
+  at_end : length l ≤ start → record { start = start; end = start } ≡ word_from l at
+  at_end h = at_word start (none_past l start h) (omega (arith, ends ends_word l start h))
 
 -- ---- the words of a list, by its first byte
 

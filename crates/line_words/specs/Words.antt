@@ -1,5 +1,5 @@
 -- The words of a line: what stands between spaces and tabs, up to a semicolon, which begins a comment. Definitions only.
-use Rattle.std.specs.Prelude.{ℕ, zero, suc, ◌+◌, Bool, true, false, cond, not, ◌||◌, List, [], ◌∷◌, eqb, length, get_or, drop}
+use Rattle.std.specs.Prelude.{ℕ, zero, suc, ◌+◌, Bool, cond, not, ◌||◌, List, [], ◌∷◌, eqb, length, get_or, drop}
 use Rattle.lines.specs.Lines.{pieces, stretch}
 use Rattle.line_words.specs.declared.Word.{Word}
 

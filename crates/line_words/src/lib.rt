@@ -1,7 +1,7 @@
 // The words of a line, by their places in it.
 #![tactic(auto)]
 
-ghost use Rattle.std.specs.Prelude.{◌≡◌, ◌+◌, ◌≤◌, length, drop};
+ghost use Rattle.std.specs.Prelude.{◌≡◌, ◌≤◌, length};
 ghost use Rattle.lines.specs.Lines.{stretch};
 ghost use Rattle.line_words.specs.Words.{is_blank, not_blank, ends_word, word_from};
 
@@ -12,46 +12,32 @@ pub struct Word {
     pub end: usize,
 }
 
+#[tactic(auto, unfolding(crate::specs::Words::is_blank))]
 fn is_blank(c: u8) -> bool
     ensures { result ≡ is_blank c }
 {
     (c == b' ') | (c == b'\t')
 }
 
+#[tactic(auto, unfolding(crate::specs::Words::ends_word, crate::specs::Words::is_comment))]
 fn ends_word(c: u8) -> bool
     ensures { result ≡ ends_word c }
 {
     is_blank(c) | (c == b';')
 }
 
-// The place of the first byte from `at` on that is no blank, or the end of the line.
-fn past_blanks(line: &[u8], at: usize) -> usize
-    requires { at ≤ length line.now }
-    ensures { (result ≡ at + stretch not_blank (drop at line.now)) × (result ≤ length line.now) }
+// How many blanks stand first.
+fn blanks(s: &[u8]) -> usize
+    ensures { (result ≡ stretch not_blank s.now) × (result ≤ length s.now) }
 {
-    let mut i = at;
-    while i < line.len() {
-        if !is_blank(line[i]) {
-            return i;
-        }
-        i += 1;
-    }
-    i
+    s.iter().position(|c| !is_blank(*c)).unwrap_or(s.len())
 }
 
-// The place of the first byte from `at` on that no word has, or the end of the line.
-fn word_end(line: &[u8], at: usize) -> usize
-    requires { at ≤ length line.now }
-    ensures { (result ≡ at + stretch ends_word (drop at line.now)) × (result ≤ length line.now) }
+// How many bytes of a word stand first.
+fn word_length(s: &[u8]) -> usize
+    ensures { (result ≡ stretch ends_word s.now) × (result ≤ length s.now) }
 {
-    let mut i = at;
-    while i < line.len() {
-        if ends_word(line[i]) {
-            return i;
-        }
-        i += 1;
-    }
-    i
+    s.iter().position(|c| ends_word(*c)).unwrap_or(s.len())
 }
 
 // The first word from `at` on.
@@ -59,21 +45,15 @@ pub fn next_word(line: &[u8], at: usize) -> Word
     requires { at ≤ length line.now }
     ensures { result ≡ word_from line.now at }
 {
-    let start = past_blanks(line, at);
-    if start < line.len() {
-        if line[start] == b';' {
-            return Word {
-                start: line.len(),
-                end: line.len(),
-            };
-        }
+    let start = at + blanks(&line[at..]);
+    if start < line.len() && line[start] == b';' {
         return Word {
-            start: start,
-            end: word_end(line, start),
+            start: line.len(),
+            end: line.len(),
         };
     }
     Word {
-        start: start,
-        end: start,
+        start,
+        end: start + word_length(&line[start..]),
     }
 }

@@ -1,8 +1,7 @@
 -- How many of n columns a factorization passed. Definitions only.
-use Rattle.std.specs.Prelude.{ℕ}
-use Rattle.linear.specs.declared.factorization.Factored.{Factored}
-use Rattle.linear.specs.declared.factorization.Factored.TheVariants.{Done, Stopped}
+use Rattle.std.specs.Prelude.{ℕ, Err, Ok}
+use Rattle.linear.specs.Factorization.{Factored}
 
 abbrev pub passed : ℕ → Factored → ℕ
-passed n Done = n
-passed n (Stopped c) = c.0
+passed n (Ok tt) = n
+passed n (Err c) = c.0

@@ -7,8 +7,6 @@ ghost use Rattle.linear.specs.Factorization.{factor_of};
 ghost use Rattle.substitution.specs.Substitution.{solved};
 ghost use Rattle.linear_bench.specs.Passed.{passed};
 
-use linear::Factored;
-
 // How many columns were passed: n where the factorization went through.
 #[unsafe(no_mangle)]
 pub extern "C" fn linear_bench_factor(a: &mut [f64], n: usize) -> usize
@@ -17,8 +15,8 @@ pub extern "C" fn linear_bench_factor(a: &mut [f64], n: usize) -> usize
     ensures answer { result ≡ passed n (factor_of n a.old).answer }
 {
     match linear::factor(a, n) {
-        Factored::Done => n,
-        Factored::Stopped(c) => c.0,
+        Ok(()) => n,
+        Err(c) => c.0,
     }
 }
 

@@ -1,41 +1,19 @@
 -- The line that begins at a place is the first of the lines from there on, and behind it the others stand. Assumes nothing.
-use mathlib.Core.Path.{◌≡◌, refl, sym, ap, ◌∙◌, subst}
-use mathlib.Core.Bool.{Bool, true, false, cond, ◌&&◌, false≢true}
+use mathlib.Core.Path.{◌≡◌, refl, sym, ap, ◌∙◌}
+use mathlib.Core.Bool.{Bool, true, false, cond, ◌&&◌}
 use mathlib.Core.List.{List, [], ◌∷◌, map}
 use Prim.Native.Nat.{ℕ, zero, suc, ◌+◌, ◌-◌, ◌≤◌, ◌<◌, zero-le}
 use native.Mathlib.Nat.{le_of_suc-le-suc, not-suc-le-zero}
-use native.Mathlib.Numerals.{add-one}
 use native.Mathlib.Omega.{arith}
 use lib.Dec.{eqb, ltb}
-use borrow.Author.Tests.{lt-ltb, le-ltb, eq-eqb, ne_eqb, ltb-true, ltb-false}
+use borrow.Author.Tests.{lt-ltb, le-ltb, ltb-true, ltb-false}
 use lib.ListN.{length, get_or, take, drop, length-drop}
 use lib.Seq.{drop-drop, get_or-drop}
+use Rattle.std.specs.Prelude.{Option, Some, None}
+use Rattle.std.proofs.lemmas.Option.{none-some}
+use Rattle.std.specs.Option.{unwrap_or}
 use Rattle.lines.specs.declared.Line.{Line}
-use Rattle.lines.specs.Lines.{is_newline, onto, pieces, without_return, lines_of, passage, stretch, end_of, line_at, lines_behind}
-
--- ---- the cases of `end_of` and `line_at`
-
-module _ (t : List ℕ) (at stop : ℕ) where
-  pub end_return : at < stop → get_or t (stop - 1) 0 ≡ 13 → stop - 1 ≡ end_of t at stop
-  unfolding end_of
-  end_return h e = simp (lt-ltb at stop h, eq-eqb (get_or t (stop - 1) 0) 13 e)
-
-  pub end_other : at < stop → (get_or t (stop - 1) 0 ≡ 13 → ⊥) → stop ≡ end_of t at stop
-  unfolding end_of
-  end_other h e = simp (lt-ltb at stop h, ne_eqb (get_or t (stop - 1) 0) 13 e)
-
-  pub end_empty : stop ≤ at → stop ≡ end_of t at stop
-  unfolding end_of
-  end_empty h = simp (le-ltb at stop h)
-
-module _ (t : List ℕ) (at stop end : ℕ) (is : stop ≡ at + stretch is_newline (drop at t)) (e : end ≡ end_of t at stop) where
-  pub inner : stop < length t → record { end = end; next = stop + 1; last = false } ≡ line_at t at
-  unfolding line_at
-  inner h = rw (e, is) (sym (rw (lt-ltb (at + stretch is_newline (drop at t)) (length t) (rw is at h))))
-
-  pub last : length t ≤ stop → record { end = end; next = stop; last = true } ≡ line_at t at
-  unfolding line_at
-  last h = rw (e, is) (sym (rw (le-ltb (at + stretch is_newline (drop at t)) (length t) (rw is at h))))
+use Rattle.lines.specs.Lines.{is_newline, pieces, without_return, lines_of, passage, stretch, end_of, line_at, lines_behind}
 
 -- ---- pieces, by the first of them
 
@@ -111,11 +89,10 @@ module _ (t : List ℕ) (at : ℕ) (h : at ≤ length t) where
 
   -- a line by its places is the first of the lines from here on, and the others stand behind it
   pub record First (r : Line) : Type 0 where
-    pub lines : lines_of l ≡ passage at r.end t ∷ lines_behind r.last (drop r.next t)
+    pub lines : lines_of l ≡ passage at r.end t ∷ lines_behind r.next t
     pub from : at ≤ r.end
-    pub to : r.end ≤ r.next
-    pub within : r.next ≤ length t
-    pub further : r.last ≡ false → at < r.next
+    pub within : r.end ≤ length t
+    pub further : (n : ℕ) → r.next ≡ Some n → (at < n) × (n ≤ length t)
 
   end_from : (at ≤ end_of t at stop) × (end_of t at stop ≤ stop)
   unfolding end_of
@@ -131,30 +108,26 @@ module _ (t : List ℕ) (at : ℕ) (h : at ≤ length t) where
   first_piece = ap (map without_return) (pieces_are is_newline l) ∙ ap (λ (p : List ℕ). p ∷ map without_return (others is_newline l)) (bytes (stretch is_newline l) refl)
 
   pub line_first : First (line_at t at)
-  unfolding lines_of
+  unfolding lines_of line_at
   line_first = go (ltb stop (length t)) refl
     where
-      go : (b : Bool) → ltb stop (length t) ≡ b → First (line_at t at)
+      go : (b : Bool) → ltb stop (length t) ≡ b → First (record { end = end_of t at stop; next = cond b (Some (stop + 1)) None })
       go true e =
           let k : stretch is_newline l < length t - at = omega (arith, ltb-true stop (length t) e) in
           let s : at + suc (stretch is_newline l) ≡ stop + 1 = omega arith in
           let o : others is_newline l ≡ pieces is_newline (drop (stop + 1) t) =
           rw (length-drop at t, lt-ltb (stretch is_newline l) (length t - at) k, drop-drop (suc (stretch is_newline l)) at t, s) in
-          subst First (inner t at stop (end_of t at stop) refl refl (ltb-true stop (length t) e))
           record {
             lines = first_piece ∙ ap (λ (ps : List (List ℕ)). passage at (end_of t at stop) t ∷ map without_return ps) o;
             from = end_from.0;
-            to = omega (arith, end_from);
-            within = omega (arith, ltb-true stop (length t) e);
-            further = λ f. omega arith;
+            within = omega (arith, end_from, within);
+            further = λ n f. let g : n ≡ stop + 1 = sym (ap (λ (o : Option ℕ). unwrap_or o n) f) in (omega arith, omega (arith, ltb-true stop (length t) e));
           }
       go false e =
           let o : others is_newline l ≡ [] = rw (length-drop at t, le-ltb (stretch is_newline l) (length t - at) (omega (arith, ltb-false stop (length t) e))) in
-          subst First (last t at stop (end_of t at stop) refl refl (ltb-false stop (length t) e))
           record {
             lines = first_piece ∙ ap (λ (ps : List (List ℕ)). passage at (end_of t at stop) t ∷ map without_return ps) o;
             from = end_from.0;
-            to = end_from.1;
-            within = omega (arith, within);
-            further = λ f. absurd (false≢true (sym f));
+            within = omega (arith, end_from, within);
+            further = λ n f. absurd (none-some n f);
           }

@@ -1,5 +1,5 @@
 -- The lines of a text: a newline ends a line, a carriage return right before it or at the end of the text is dropped, and the last line needs no newline. Definitions only.
-use Rattle.std.specs.Prelude.{ℕ, zero, suc, ◌+◌, ◌-◌, Bool, true, false, cond, ◌&&◌, List, [], ◌∷◌, map, eqb, ltb, length, get_or, take, drop}
+use Rattle.std.specs.Prelude.{ℕ, zero, suc, ◌+◌, ◌-◌, Bool, cond, ◌&&◌, List, [], ◌∷◌, map, eqb, ltb, length, get_or, take, drop, Option, Some, None}
 use Rattle.lines.specs.declared.Line.{Line}
 
 unfoldable pub is_newline : ℕ → Bool
@@ -39,14 +39,11 @@ unfoldable pub end_of : List ℕ → ℕ → ℕ → ℕ
 end_of t at stop = cond {A = ℕ} (ltb at stop && eqb (get_or t (stop - 1) 0) 13) (stop - 1) stop
 
 unfoldable pub line_at : List ℕ → ℕ → Line
-unfolding end_of
 line_at t at =
     let stop = at + stretch is_newline (drop at t) in
-    cond (ltb stop (length t))
-    (record { end = end_of t at stop; next = stop + 1; last = false })
-    (record { end = end_of t at stop; next = stop; last = true })
+    record { end = end_of t at stop; next = cond (ltb stop (length t)) (Some (stop + 1)) None }
 
--- the lines behind one
-abbrev pub lines_behind : Bool → List ℕ → List (List ℕ)
-lines_behind true t = []
-lines_behind false t = lines_of t
+-- the lines behind one, by where the next begins
+abbrev pub lines_behind : Option ℕ → List ℕ → List (List ℕ)
+lines_behind None t = []
+lines_behind (Some next) t = lines_of (drop next t)

@@ -1,62 +1,48 @@
 // The lines of a text, by their places in it.
 #![tactic(auto)]
 
-ghost use Rattle.std.specs.Prelude.{◌≡◌, ◌+◌, ◌≤◌, length, drop};
+ghost use Rattle.std.specs.Prelude.{◌≡◌, ◌≤◌, length};
 ghost use Rattle.lines.specs.Lines.{stretch, is_newline, end_of, line_at};
 
-// A line that begins at some place: its end, where the next line begins, and whether it is the last one.
+// A line that begins at some place: its end, and where the next line begins, unless it is the last.
 #[derive(Clone, Copy)]
 pub struct Line {
     pub end: usize,
-    pub next: usize,
-    pub last: bool,
+    pub next: Option<usize>,
 }
 
-// The place of the first newline from `at` on, or the end of the text.
-fn line_break(text: &[u8], at: usize) -> usize
-    requires { at ≤ length text.now }
-    ensures { (result ≡ at + stretch is_newline (drop at text.now)) × (result ≤ length text.now) }
+// How many bytes stand before the first newline, or all.
+fn before_newline(s: &[u8]) -> usize
+    ensures { (result ≡ stretch is_newline s.now) × (result ≤ length s.now) }
 {
-    let mut i = at;
-    while i < text.len() {
-        if text[i] == b'\n' {
-            return i;
-        }
-        i += 1;
-    }
-    i
+    s.iter().position(|c| *c == b'\n').unwrap_or(s.len())
 }
 
 // The end of a line without the carriage return that may stand before it.
+#[tactic(auto, unfolding(crate::specs::Lines::end_of))]
 fn without_return(text: &[u8], at: usize, stop: usize) -> usize
     requires { (at ≤ stop) × (stop ≤ length text.now) }
     ensures { result ≡ end_of text.now at stop }
 {
-    if at < stop {
-        if text[stop - 1] == b'\r' {
-            return stop - 1;
-        }
+    if at < stop && text[stop - 1] == b'\r' {
+        return stop - 1;
     }
     stop
 }
 
 // The line that begins at `at`.
+#[tactic(auto, unfolding(crate::specs::Lines::line_at))]
 pub fn line_at(text: &[u8], at: usize) -> Line
     requires { at ≤ length text.now }
     ensures { result ≡ line_at text.now at }
 {
-    let stop = line_break(text, at);
-    let end = without_return(text, at, stop);
-    if stop < text.len() {
-        return Line {
-            end: end,
-            next: stop + 1,
-            last: false,
-        };
-    }
+    let stop = at + before_newline(&text[at..]);
     Line {
-        end: end,
-        next: stop,
-        last: true,
+        end: without_return(text, at, stop),
+        next: if stop < text.len() {
+            Some(stop + 1)
+        } else {
+            None
+        },
     }
 }

@@ -8,7 +8,6 @@ use lib.ListN.{get_or}
 use lib.Ieee.{Float, nan}
 use Rattle.layout.specs.declared.places.Layout.{Layout}
 use Rattle.found.specs.Searches.{first_from, First}
-use Rattle.found.specs.declared.Found.TheVariants.{At, Nothing}
 use Rattle.found.proofs.Firsts.{first_start, first_is, first_none}
 use Rattle.records.specs.declared.records.Link.{Link}
 use Rattle.links.specs.Links.{link_of}
@@ -20,6 +19,7 @@ use Rattle.update.specs.Update.{basis, flow_change}
 use Rattle.tolerance.specs.Within.{within_of}
 use Rattle.tolerance.specs.declared.Limits.{Limits}
 use Rattle.link_laws.specs.LinkLaws.{change_by, slight, moves_by, moves, unsettled_of}
+use Rattle.std.specs.Prelude.{None, Some}
 
 -- the update moves a link by the factor times this change, where its coefficients stand in the columns
 pub update_changes : (heads g y : List Float) (factor : Float) (k : Link) (c : Coefficients) (j : ℕ) → get_or g j nan ≡ c.conductance → get_or y j nan ≡ c.offset
@@ -66,12 +66,12 @@ module _ (s : List ℕ) (l : Layout) (v : View) (limits : Limits) where
     c = coefficients_at s l v.flows v.statuses v.excess k j
 
     -- no 5: the change of every link in service is slight
-    pub all-slight : unsettled_of s l v limits ≡ Nothing → j < l.links → enabled s l k.start ≡ true → enabled s l k.end ≡ true → slight (change_by v.heads k c) c.conductance limits ≡ true
+    pub all-slight : unsettled_of s l v limits ≡ None → j < l.links → enabled s l k.start ≡ true → enabled s l k.end ≡ true → slight (change_by v.heads k c) c.conductance limits ≡ true
     unfolding unsettled_of moves moves_by
     all-slight none h p q =
         small_of (enabled s l k.start) (enabled s l k.end) (slight (change_by v.heads k c) c.conductance limits) (first_none (moves s l v limits) l.links none j h) p q
 
     -- 5: this link is not, and none lower that moves
-    pub lowest-unsettled : unsettled_of s l v limits ≡ At j → First (moves s l v limits) l.links j
+    pub lowest-unsettled : unsettled_of s l v limits ≡ Some j → First (moves s l v limits) l.links j
     unfolding unsettled_of
     lowest-unsettled h = first_is (moves s l v limits) l.links j h

@@ -1,9 +1,8 @@
 -- Line 5 of the verdict: the lowest link in service that its own law would move. Definitions only.
-use Rattle.std.specs.Prelude.{ℕ, Bool, not, ◌&&◌, ◌||◌, List, get_or, Float}
+use Rattle.std.specs.Prelude.{ℕ, Bool, not, ◌&&◌, ◌||◌, List, get_or, Float, Option}
 use Rattle.std.specs.Float.{nan}
 use Rattle.layout.specs.declared.places.Layout.{Layout}
 use Rattle.found.specs.Searches.{first_of}
-use Rattle.found.specs.declared.Found.{Found}
 use Rattle.records.specs.declared.records.Link.{Link}
 use Rattle.links.specs.Links.{link_of}
 use Rattle.constants.specs.Arithmetic.{minus, times}
@@ -34,6 +33,6 @@ moves s l v limits j =
     moves_by s l v.heads limits (link_of s l j) (coefficients_at s l v.flows v.statuses v.excess (link_of s l j) j)
 
 -- the lowest such link
-unfoldable pub unsettled_of : List ℕ → Layout → View → Limits → Found
+unfoldable pub unsettled_of : List ℕ → Layout → View → Limits → Option ℕ
 unfolding moves first_of
 unsettled_of s l v limits = first_of (moves s l v limits) l.links

@@ -2,19 +2,19 @@
 #![tactic(auto)]
 
 ghost use Rattle.std.specs.Prelude.{◌≡◌, ◌<◌, ◌≤◌, length};
-ghost use Rattle.power.specs.Tables.{power_table};
 ghost use Rattle.layout.specs.Places.{Laid};
 ghost use Rattle.links.specs.Links.{EndsIn};
 ghost use Rattle.link_rows.specs.LinkRows.{view};
 ghost use Rattle.link_laws.specs.LinkLaws.{change_by, slight, moves, unsettled_of};
 
 use coefficient::Coefficients;
-use found::Found;
 use layout::Layout;
 use link_rows::coefficients_at;
 use links::link;
 use nodes::is_enabled;
+use power::PowerTable;
 use records::Link;
+use search::first_where;
 use tolerance::{Limits, within};
 
 // The change of a link's flow by its law, as crate update has it before damping.
@@ -42,7 +42,7 @@ fn is_slight(m: f64, g: f64, limits: Limits) -> bool
 fn moves_at(
     sheet: &[u8],
     l: Layout,
-    table: &[u64; 1153],
+    table: &PowerTable,
     j: usize,
     heads: &[f64],
     flows: &[f64],
@@ -53,7 +53,7 @@ fn moves_at(
     requires laid { Laid l sheet.now }
     requires ends_in { EndsIn l sheet.now }
     requires nodes_in_bounds { (l.nodes ≤ length heads.now) × ((l.nodes ≤ length excess.now) × ((l.links ≤ length flows.now) × (l.links ≤ length statuses.now))) }
-    requires table_value { (table.now ≡ power_table) × (j < l.links) }
+    requires j_lt_links { j < l.links }
     ensures { result ≡ moves sheet.now l (view heads.now flows.now statuses.now excess.now) limits j }
 {
     let k = link(sheet, l, j);
@@ -72,23 +72,19 @@ fn moves_at(
 pub fn unsettled(
     sheet: &[u8],
     l: Layout,
-    table: &[u64; 1153],
+    table: &PowerTable,
     heads: &[f64],
     flows: &[f64],
     statuses: &[u8],
     excess: &[f64],
     limits: Limits,
-) -> Found
+) -> Option<usize>
     requires laid { Laid l sheet.now }
     requires ends_in { EndsIn l sheet.now }
     requires nodes_in_bounds { (l.nodes ≤ length heads.now) × ((l.nodes ≤ length excess.now) × ((l.links ≤ length flows.now) × (l.links ≤ length statuses.now))) }
-    requires table_value { table.now ≡ power_table }
     ensures { result ≡ unsettled_of sheet.now l (view heads.now flows.now statuses.now excess.now) limits }
 {
-    for j in 0..l.links {
-        if moves_at(sheet, l, table, j, heads, flows, statuses, excess, limits) {
-            return Found::At(j);
-        }
-    }
-    Found::Nothing
+    first_where(l.links, |j| {
+        moves_at(sheet, l, table, j, heads, flows, statuses, excess, limits)
+    })
 }

@@ -14,10 +14,9 @@ use Rattle.links.specs.Links.{link_of}
 use Rattle.model.specs.Rules.{coefficients_of}
 use Rattle.coefficient.specs.declared.Coefficients.{Coefficients}
 use Rattle.nodes.specs.Nodes.{enabled, fixed_node, elevation_of}
-use Rattle.numbering.specs.Numbering.{row_at}
+use Rattle.numbering.specs.Numbering.{row_at, Row}
 use Rattle.scatter.specs.Scatter.{link_matrix, link_row}
 use Rattle.link_rows.specs.LinkRows.{System, system, View, coefficients_at, link_placed, link_added}
-use Rattle.numbering.specs.declared.Row.{Row}
 
 pub coefficients_of_lem : (s : List ℕ) (l : Layout) (flows : List Float) (statuses : List ℕ) (excess : List Float) (k : Link) (j : ℕ) (status : Status) (up down : Float) (c : Coefficients)
     → status ≡ status_of (get_or statuses j 0) → up ≡ elevation_of s l k.start → down ≡ elevation_of s l k.end

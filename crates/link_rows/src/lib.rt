@@ -2,17 +2,17 @@
 #![tactic(auto)]
 
 ghost use Rattle.std.specs.Prelude.{◌≡◌, ◌<◌, ◌≤◌, length};
-ghost use Rattle.power.specs.Tables.{power_table};
 ghost use Rattle.layout.specs.Places.{Laid};
 ghost use Rattle.links.specs.Links.{link_of};
 ghost use Rattle.link_rows.specs.LinkRows.{system, Given, Sized, view, coefficients_at, link_placed, link_added};
 
-use codes::status_of;
+use codes::Status;
 use coefficient::Coefficients;
 use layout::Layout;
 use links::link;
 use nodes::{NodeIndex, elevation, is_enabled, is_fixed};
 use numbering::unknown_of;
+use power::PowerTable;
 use records::Link;
 use scatter::{link_into_matrix, link_into_row};
 
@@ -20,7 +20,7 @@ use scatter::{link_into_matrix, link_into_row};
 pub fn coefficients_at(
     sheet: &[u8],
     l: Layout,
-    table: &[u64; 1153],
+    table: &PowerTable,
     k: Link,
     j: usize,
     flows: &[f64],
@@ -30,14 +30,13 @@ pub fn coefficients_at(
     requires laid { Laid l sheet.now }
     requires nodes_in_bounds { (l.nodes ≤ length excess.now) × ((j < length flows.now) × (j < length statuses.now)) }
     requires start_lt_nodes { (k.start < l.nodes) × (k.end < l.nodes) }
-    requires table_value { table.now ≡ power_table }
     ensures { result ≡ coefficients_at sheet.now l flows.now statuses.now excess.now k j }
 {
     let start = k.start;
     let end = k.end;
     let up = elevation(sheet, l, start);
     let down = elevation(sheet, l, end);
-    let status = status_of(statuses[j]);
+    let status = Status::from(statuses[j]);
     model::coefficients(
         k,
         status,
@@ -102,7 +101,7 @@ pub fn add_link(
     sheet: &[u8],
     l: Layout,
     unknowns: &[usize],
-    table: &[u64; 1153],
+    table: &PowerTable,
     j: usize,
     heads: &[f64],
     flows: &[f64],
@@ -115,7 +114,7 @@ pub fn add_link(
 )
     requires given { Given l sheet.now unknowns.now (view heads.now flows.now statuses.now excess.now) }
     requires sized { Sized l (system matrix.old rhs.old g.old y.old) }
-    requires table_value { (table.now ≡ power_table) × (j < l.links) }
+    requires j_lt_links { j < l.links }
     ensures { system matrix.new rhs.new g.new y.new ≡ link_added sheet.now l (view heads.now flows.now statuses.now excess.now) (link_of sheet.now l j) j (system matrix.old rhs.old g.old y.old) }
 {
     let k = link(sheet, l, j);

@@ -1,67 +1,24 @@
--- The columns of ends: one turn of the filling, and what they hold. Assumes nothing.
-use Prim.Native.Nat.{ℕ, zero, suc, ◌+◌, ◌≤◌, ◌<◌}
-use mathlib.Core.Path.{◌≡◌, refl, sym, ap, subst, ◌∙◌}
+-- The columns of ends: what they hold. Assumes nothing.
+use Prim.Native.Nat.{ℕ, suc, ◌≤◌, ◌<◌}
+use mathlib.Core.Path.{◌≡◌, ap, ◌∙◌}
 use mathlib.Core.List.{List, ◌++◌}
-use mathlib.Core.Logic.{⊎_elim}
-use native.Mathlib.Nat.{eq-or-lt_of_le, le_of_suc-le-suc}
-use native.Mathlib.Numerals.{add-one}
 use native.Mathlib.Omega.{arith}
-use lib.ListN.{length, get_or, set, drop, length-set}
-use lib.Seq.{get_or-set_same, get_or-set_other}
+use lib.ListN.{drop, replicate, length-replicate}
+use Rattle.layout.specs.declared.places.Layout.{Layout}
+use Rattle.links.specs.Links.{link_start, link_end}
 use Rattle.touching.specs.Touching.{in_column, place_of, places_of, listed_of}
 use Rattle.touching.proofs.Same.{Same, place_same, places_same, listed_same}
-use Rattle.links_at.specs.LinksAt.{filled}
-
--- after j links, with both columns as they are and as they were
-pub record Filled (f g : ℕ → ℕ) (m : ℕ) (x₀ y₀ x y : List ℕ) (j : ℕ) : Type 0 where
-  pub upto : j ≤ m
-  pub starts : x ≡ filled f j x₀
-  pub ends : y ≡ filled g j y₀
-  pub x_long : length x ≡ length x₀
-  pub y_long : length y ≡ length y₀
-
-pub filled_none : (f g : ℕ → ℕ) (m : ℕ) (x y : List ℕ) → Filled f g m x y x y 0
-unfolding filled
-filled_none f g m x y = record { upto = omega arith; starts = refl; ends = refl; x_long = refl; y_long = refl }
-
-pub filled_next : (f g : ℕ → ℕ) (m : ℕ) (x₀ y₀ x y : List ℕ) (j a b : ℕ) → Filled f g m x₀ y₀ x y j → j < m → a ≡ f j → b ≡ g j → Filled f g m x₀ y₀ (set x j a) (set y j b) (j + 1)
-unfolding filled
-filled_next f g m x₀ y₀ x y j a b w more ea eb =
-    record {
-      upto = omega arith;
-      starts = rw (add-one j, w.starts, ea);
-      ends = rw (add-one j, w.ends, eb);
-      x_long = length-set x j a ∙ w.x_long;
-      y_long = length-set y j b ∙ w.y_long;
-    }
-
-pub filled_all : (f g : ℕ → ℕ) (m : ℕ) (x₀ y₀ x y : List ℕ) (j : ℕ) → Filled f g m x₀ y₀ x y j → m ≤ j → (x ≡ filled f m x₀) × (y ≡ filled g m y₀)
-filled_all f g m x₀ y₀ x y j w h =
-    let e : j ≡ m = omega (arith, w.upto) in
-    (w.starts ∙ ap (λ (k : ℕ). filled f k x₀) e, w.ends ∙ ap (λ (k : ℕ). filled g k y₀) e)
-
-module _ (f : ℕ → ℕ) where
-  pub filled_long : (m : ℕ) (x : List ℕ) → length (filled f m x) ≡ length x
-  unfolding filled
-  filled_long zero x = refl
-  filled_long (suc m) x = length-set (filled f m x) m (f m) ∙ filled_long m x
-
-  pub filled_at : (m : ℕ) (x : List ℕ) → m ≤ length x → (j : ℕ) → j < m → in_column (filled f m x) j ≡ f j
-  unfolding filled in_column
-  filled_at zero x h j b = absurd (omega arith)
-  filled_at (suc m) x h j b =
-      ⊎_elim
-      (λ (e : j ≡ m). subst (λ (k : ℕ). get_or (set (filled f m x) m (f m)) k 0 ≡ f k) (sym e) (get_or-set_same (filled f m x) m (f m) 0 (omega (arith, filled_long m x))))
-      (λ (q : j < m). get_or-set_other (filled f m x) m j (f m) 0 (λ e. omega arith) ∙ filled_at m x (omega arith) j q)
-      (eq-or-lt_of_le (le_of_suc-le-suc b))
+use Rattle.fills.specs.Fills.{filled}
+use Rattle.fills.proofs.Laws.{filled_at}
 
 -- the columns say what they were filled with
-pub filled_same : (f g : ℕ → ℕ) (m : ℕ) (x₀ y₀ x y : List ℕ) → x ≡ filled f m x₀ → y ≡ filled g m y₀ → m ≤ length x₀ → m ≤ length y₀ → Same (in_column x) (in_column y) f g m
-filled_same f g m x₀ y₀ x y ex ey hx hy =
-    record {
-      starts = λ j h. ap (λ (z : List ℕ). in_column z j) ex ∙ filled_at f m x₀ hx j h;
-      ends = λ j h. ap (λ (z : List ℕ). in_column z j) ey ∙ filled_at g m y₀ hy j h;
-    }
+column_same : (f : ℕ → ℕ) (m : ℕ) (x : List ℕ) → m ≤ 128 → x ≡ filled f m (replicate 128 0) → (j : ℕ) → j < m → in_column x j ≡ f j
+unfolding in_column
+column_same f m x few e j h = ap (λ (z : List ℕ). in_column z j) e ∙ filled_at f 0 m (replicate 128 0) (omega (arith, few, length-replicate {A = ℕ} 128 0)) j h
+
+pub ends_same : (s : List ℕ) (l : Layout) (x y : List ℕ) → l.links ≤ 128 → x ≡ filled (link_start s l) l.links (replicate 128 0) → y ≡ filled (link_end s l) l.links (replicate 128 0)
+    → Same (in_column x) (in_column y) (link_start s l) (link_end s l) l.links
+ends_same s l x y few ex ey = record { starts = column_same (link_start s l) l.links x few ex; ends = column_same (link_end s l) l.links y few ey }
 
 -- what the columns list is what the links list
 module _ (start end f g : ℕ → ℕ) (m n : ℕ) (same : Same start end f g m) where

@@ -1,13 +1,8 @@
 -- A sheet's links at its nodes. Definitions only.
-use Rattle.std.specs.Prelude.{ℕ, zero, suc, List, set}
+use Rattle.std.specs.Prelude.{ℕ, List}
 use Rattle.layout.specs.declared.places.Layout.{Layout}
 use Rattle.links.specs.Links.{link_start, link_end}
 use Rattle.touching.specs.Touching.{Listed}
-
--- a column whose first m entries are given by their number
-unfoldable pub filled : (ℕ → ℕ) → ℕ → List ℕ → List ℕ
-filled f zero x = x
-filled f (suc j) x = set (filled f j x) j (f j)
 
 -- the columns begin with the sheet's links at its nodes, and their places
 abbrev pub LinksAt : Layout → List ℕ → List ℕ → List ℕ → Type 0

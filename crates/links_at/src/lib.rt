@@ -5,8 +5,10 @@ ghost use Rattle.std.specs.Prelude.{◌≡◌, ◌++◌, suc, ◌*◌, ◌<◌, 
 ghost use Rattle.layout.specs.Places.{Laid};
 ghost use Rattle.links.specs.Links.{link_start, link_end};
 ghost use Rattle.touching.specs.Touching.{place_of, places_of, listed_of, Joined};
-ghost use Rattle.links_at.specs.LinksAt.{filled, LinksAt};
+ghost use Rattle.fills.specs.Fills.{filled};
+ghost use Rattle.links_at.specs.LinksAt.{LinksAt};
 
+use fills::fill_with;
 use layout::Layout;
 use links::{link_end, link_start};
 
@@ -17,10 +19,8 @@ pub fn put_ends(sheet: &[u8], l: Layout, starts: &mut [usize], ends: &mut [usize
     ensures starts { starts.new ≡ filled (link_start sheet.now l) l.links starts.old }
     ensures ends { ends.new ≡ filled (link_end sheet.now l) l.links ends.old }
 {
-    for j in 0..l.links {
-        starts[j] = link_start(sheet, l, j);
-        ends[j] = link_end(sheet, l, j);
-    }
+    fill_with(starts, l.links, |j| link_start(sheet, l, j));
+    fill_with(ends, l.links, |j| link_end(sheet, l, j));
 }
 
 // Lists a sheet's links at its nodes.

@@ -7,9 +7,7 @@ use native.Mathlib.Omega.{arith}
 use borrow.Author.Tests.{eq-eqb, ne_eqb}
 use lib.ListN.{length}
 use lib.Ieee.{Float}
-use Rattle.sheet.specs.Read.{read_of}
-use Rattle.sheet.specs.declared.reading.Reading.{Reading}
-use Rattle.sheet.specs.declared.reading.Reading.TheVariants.{Good, Refused}
+use Rattle.sheet.specs.Read.{read_of, Reading}
 use Rattle.layout.specs.declared.places.Layout.{Layout}
 use Rattle.refusals.specs.declared.refusals.Refusal.{Refusal}
 use Rattle.answers.specs.Answers.{Solved}
@@ -18,12 +16,13 @@ use Rattle.solver.specs.Solve.{solve_of}
 use Rattle.words.specs.Buffer.{placed, Put}
 use Rattle.words.proofs.Laws.{then}
 use Rattle.listing_text.specs.Listing.{head_lines, result_lines, results_for, lines_of, blank, listing_of}
+use Rattle.std.specs.Prelude.{Err, Ok}
 
 module _ (reading : Reading) (a : Answer) (h d q : List Float) (codes entries : List ℕ) {old mid : List ℕ} {p : ℕ} (head : Put old 0 (head_lines a entries) mid p) where
   no_results : (a.number ≡ 0 → ⊥) → (x : Reading) → results_for x a h d q codes ≡ []
   unfolding results_for
-  no_results ne (Refused r) = refl
-  no_results ne (Good l) = rw (ne_eqb a.number 0 ne)
+  no_results ne (Err r) = refl
+  no_results ne (Ok l) = rw (ne_eqb a.number 0 ne)
 
   head_alone : results_for reading a h d q codes ≡ [] → Put old 0 (lines_of reading a h d q codes entries) mid p
   unfolding lines_of
@@ -32,11 +31,11 @@ module _ (reading : Reading) (a : Answer) (h d q : List Float) (codes entries : 
   pub told_failed : (a.number ≡ 0 → ⊥) → Put old 0 (lines_of reading a h d q codes entries) mid p
   told_failed ne = head_alone (no_results ne reading)
 
-  pub told_unread : (r : Refusal) → reading ≡ Refused r → Put old 0 (lines_of reading a h d q codes entries) mid p
+  pub told_unread : (r : Refusal) → reading ≡ Err r → Put old 0 (lines_of reading a h d q codes entries) mid p
   unfolding results_for
   told_unread r e = head_alone (rw e)
 
-  pub told_all : {new : List ℕ} {n : ℕ} (l : Layout) → reading ≡ Good l → a.number ≡ 0 → Put mid p (result_lines l a h d q codes) new n → Put old 0 (lines_of reading a h d q codes entries) new n
+  pub told_all : {new : List ℕ} {n : ℕ} (l : Layout) → reading ≡ Ok l → a.number ≡ 0 → Put mid p (result_lines l a h d q codes) new n → Put old 0 (lines_of reading a h d q codes entries) new n
   unfolding lines_of results_for
   told_all l e z results = rw (e, eq-eqb a.number 0 z) (then head results)
 

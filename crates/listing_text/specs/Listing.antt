@@ -1,8 +1,6 @@
 -- The whole listing of a sheet (document 01, "The listing program"). Definitions only.
-use Rattle.std.specs.Prelude.{ℕ, List, [], ◌++◌, cond, eqb, replicate, Float}
-use Rattle.sheet.specs.Read.{read_of}
-use Rattle.sheet.specs.declared.reading.Reading.{Reading}
-use Rattle.sheet.specs.declared.reading.Reading.TheVariants.{Good, Refused}
+use Rattle.std.specs.Prelude.{ℕ, List, [], ◌++◌, cond, eqb, replicate, Float, Err, Ok}
+use Rattle.sheet.specs.Read.{read_of, Reading}
 use Rattle.layout.specs.declared.places.Layout.{Layout}
 use Rattle.columns.specs.Columns.{zeros}
 use Rattle.answers.specs.Answers.{Lent, lent}
@@ -23,8 +21,8 @@ result_lines l a heads demands flows statuses =
 -- results for number 0 alone, of a sheet that was read
 unfoldable pub results_for : Reading → Answer → List Float → List Float → List Float → List ℕ → List ℕ
 unfolding result_lines
-results_for (Refused r) a heads demands flows statuses = []
-results_for (Good l) a heads demands flows statuses = cond (eqb a.number 0) (result_lines l a heads demands flows statuses) []
+results_for (Err r) a heads demands flows statuses = []
+results_for (Ok l) a heads demands flows statuses = cond (eqb a.number 0) (result_lines l a heads demands flows statuses) []
 
 -- all lines, of a reading, an answer and what was lent after it
 unfoldable pub lines_of : Reading → Answer → List Float → List Float → List Float → List ℕ → List ℕ → List ℕ

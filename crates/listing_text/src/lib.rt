@@ -8,7 +8,6 @@ ghost use Rattle.listing_text.specs.Listing.{head_lines, result_lines, lines_of,
 
 use answers::Answer;
 use layout::Layout;
-use sheet::Reading;
 
 fn head_lines(a: Answer, entries: &[u8], out: &mut [u8]) -> usize
     requires { (a.trials ≤ 200) × (4 * a.trials ≤ length entries.now) × (65536 ≤ length out.old) }
@@ -60,8 +59,8 @@ pub fn tell(
         return at;
     }
     match sheet::read(sheet) {
-        Reading::Good(l) => result_lines(l, a, heads, demands, flows, statuses, out, at),
-        Reading::Refused(_) => at,
+        Ok(l) => result_lines(l, a, heads, demands, flows, statuses, out, at),
+        Err(_) => at,
     }
 }
 

@@ -5,7 +5,6 @@ use mathlib.Core.List.{List, append-nil}
 use lib.ListN.{length}
 use Rattle.refusals.specs.declared.refusals.Refusal.{Refusal}
 use Rattle.sheet.specs.Read.{read_of}
-use Rattle.sheet.specs.declared.reading.Reading.TheVariants.{Refused}
 use Rattle.text.specs.Lines.{record_lines}
 use Rattle.answers.specs.Answers.{refused_of, failed_of}
 use Rattle.solver.specs.Solve.{solve_with, after_read}
@@ -13,8 +12,9 @@ use Rattle.listing_text.specs.Listing.{head_lines, results_for, lines_of, listin
 use Rattle.stream.specs.Stream.{fed_of, refusal_of, line_of}
 use Rattle.stream.specs.declared.Progress.TheVariants.{Options}
 use Rattle.long_sheets.proofs.Long.{long_refused}
+use Rattle.std.specs.Prelude.{Err}
 
-pub refused_listed : (s : List ℕ) (r : Refusal) → read_of s ≡ Refused r → listing_of s ≡ line_of r
+pub refused_listed : (s : List ℕ) (r : Refusal) → read_of s ≡ Err r → listing_of s ≡ line_of r
 unfolding listing_of lines_of head_lines results_for solve_with after_read refused_of failed_of record_lines line_of
 refused_listed s r e = rw (e, append-nil, append-nil)
 

@@ -13,14 +13,13 @@ use Rattle.refusals.specs.declared.refusals.Refusal.{Refusal}
 use Rattle.refusals.specs.declared.refusals.Refusal.TheVariants.{Unreadable, NodeCount, LinkCount}
 use Rattle.fields.specs.Fields.{base_bounds}
 use Rattle.sheet.specs.Scan.{readable, records_from, has_options, has_pressures, nodes_at, nodes_of, links_of, layout_of, end_of}
-use Rattle.sheet.specs.Read.{checked, after_scan, read_with, read_of}
-use Rattle.sheet.specs.declared.reading.Reading.{Reading}
-use Rattle.sheet.specs.declared.reading.Reading.TheVariants.{Refused}
+use Rattle.sheet.specs.Read.{checked, after_scan, read_with, read_of, Reading}
 use Rattle.sheet.proofs.Laws.{fits, too_short_lem, run_end, run_fits, and_left, and_right}
 use Rattle.stream.specs.Stream.{fed_of, refusal_of, end_in_nodes, end_in_links}
 use Rattle.stream.specs.declared.Progress.TheVariants.{Options, Pressures, Nodes, Links}
 use Rattle.long_sheets.proofs.Feeding.{fed_none}
 use Rattle.long_sheets.proofs.Marks.{marked, options_read, options_cut, options_none, pressures_read, pressures_cut, first_node, nodes_read, nodes_cut, nodes_none, links_read, links_cut, links_none, first_link}
+use Rattle.std.specs.Prelude.{Err}
 
 -- the counts are wrong
 abbrev many : ℕ → Refusal
@@ -162,25 +161,25 @@ behind s false l e = go (eqb (get_or s 29 0) 80) refl
     go false f = ap refusal_of (first_node s 29 l (eqb-false (get_or s 29 0) 80 f))
 
 -- too many records are a wrong count
-many_counted : (s : List ℕ) (d : Bool) (n k : ℕ) → 9199 < link_offset d n k → (k ≡ 0 → ⊥) → after_scan base_bounds (planned d n k 0) s ≡ Refused (many n)
+many_counted : (s : List ℕ) (d : Bool) (n k : ℕ) → 9199 < link_offset d n k → (k ≡ 0 → ⊥) → after_scan base_bounds (planned d n k 0) s ≡ Err (many n)
 unfolding after_scan base_bounds
 many_counted s d n k l ne = go (leb 1 n && leb n 64) refl
   where
-    go : (b : Bool) → (leb 1 n && leb n 64) ≡ b → after_scan base_bounds (planned d n k 0) s ≡ Refused (many n)
+    go : (b : Bool) → (leb 1 n && leb n 64) ≡ b → after_scan base_bounds (planned d n k 0) s ≡ Err (many n)
     go true e =
         let few = leb-true n 64 (and_right (leb 1 n) (leb n 64) e) in
         rw (e, lt-leb k 128 (omega (arith, few, at_most d, l)))
     go false e = rw e
 
-nodes_counted : (s : List ℕ) (d : Bool) (n k : ℕ) → 9199 < link_offset d n k → k ≡ 0 → after_scan base_bounds (planned d n k 0) s ≡ Refused NodeCount
+nodes_counted : (s : List ℕ) (d : Bool) (n k : ℕ) → 9199 < link_offset d n k → k ≡ 0 → after_scan base_bounds (planned d n k 0) s ≡ Err NodeCount
 unfolding after_scan base_bounds
 nodes_counted s d n k l e = go (leb 1 n)
   where
-    go : (b : Bool) → cond (b && leb n 64) (cond (leb k 128) (checked base_bounds (planned d n k 0) s) (Refused LinkCount)) (Refused NodeCount) ≡ Refused NodeCount
+    go : (b : Bool) → cond (b && leb n 64) (cond (leb k 128) (checked base_bounds (planned d n k 0) s) (Err LinkCount)) (Err NodeCount) ≡ Err NodeCount
     go true = rw (lt-leb n 64 (omega (arith, at_most d, l, e)))
     go false = refl
 
-pub long_refused : (s : List ℕ) → 9199 < length s → read_of s ≡ Refused (refusal_of (fed_of (Options 0) s))
+pub long_refused : (s : List ℕ) → 9199 < length s → read_of s ≡ Err (refusal_of (fed_of (Options 0) s))
 unfolding read_of read_with has_options has_pressures nodes_at nodes_of links_of layout_of end_of link_place
 long_refused s l = options (readable 79 80 29 s 0) refl
   where
@@ -197,25 +196,25 @@ long_refused s l = options (readable 79 80 29 s 0) refl
     n₀ = omega arith
 
     counts : readable 79 80 29 s 0 ≡ true → (b : Bool) → eqb (link_offset d n k) (length s) ≡ b → (c : Bool) → eqb k 0 ≡ c
-        → cond b (after_scan base_bounds (planned d n k 0) s) (Refused (Unreadable (link_offset d n k))) ≡ Refused (refusal_of (fed_of (Options 0) (drop 0 s)))
+        → cond b (after_scan base_bounds (planned d n k 0) s) (Err (Unreadable (link_offset d n k))) ≡ Err (refusal_of (fed_of (Options 0) (drop 0 s)))
     counts h b e c f =
         let w = nodes_end s d (length s) 0 (heading d) (node_offset d n) k (omega (arith, at_most d, l)) (omega arith) refl refl in
         let t = ap refusal_of (options_read s 0 h) ∙ behind s d (omega (arith, l)) refl in
         pick w t b e c f
       where
         pick : NodesEnd s d 0 (heading d) n k → refusal_of (fed_of (Options 0) (drop 0 s)) ≡ refusal_of (fed_of (Nodes d 0 0) (drop (heading d) s)) → (b : Bool) → eqb (link_offset d n k) (length s) ≡ b → (c : Bool) → eqb k 0 ≡ c
-            → cond b (after_scan base_bounds (planned d n k 0) s) (Refused (Unreadable (link_offset d n k))) ≡ Refused (refusal_of (fed_of (Options 0) (drop 0 s)))
-        pick w t false e c f = sym (ap Refused (t ∙ w.broken (eqb-false (link_offset d n k) (length s) e) ∙ ap (λ (i : ℕ). Unreadable (link_offset d i k)) n₀))
+            → cond b (after_scan base_bounds (planned d n k 0) s) (Err (Unreadable (link_offset d n k))) ≡ Err (refusal_of (fed_of (Options 0) (drop 0 s)))
+        pick w t false e c f = sym (ap Err (t ∙ w.broken (eqb-false (link_offset d n k) (length s) e) ∙ ap (λ (i : ℕ). Unreadable (link_offset d i k)) n₀))
         pick w t true e true f =
             let x = eqb-true (link_offset d n k) (length s) e in
             let z = eqb-true k 0 f in
-            nodes_counted s d n k (omega (arith, x, l)) z ∙ sym (ap Refused (t ∙ w.none x z))
+            nodes_counted s d n k (omega (arith, x, l)) z ∙ sym (ap Err (t ∙ w.none x z))
         pick w t true e false f =
             let x = eqb-true (link_offset d n k) (length s) e in
             let z = eqb-false k 0 f in
-            many_counted s d n k (omega (arith, x, l)) z ∙ sym (ap Refused (t ∙ w.some x z ∙ ap (λ (i : ℕ). many i) n₀))
+            many_counted s d n k (omega (arith, x, l)) z ∙ sym (ap Err (t ∙ w.some x z ∙ ap (λ (i : ℕ). many i) n₀))
 
     options : (b : Bool) → readable 79 80 29 s 0 ≡ b
-        → cond b (cond (eqb (link_offset d n k) (length s)) (after_scan base_bounds (planned d n k 0) s) (Refused (Unreadable (link_offset d n k)))) (Refused (Unreadable 0)) ≡ Refused (refusal_of (fed_of (Options 0) (drop 0 s)))
+        → cond b (cond (eqb (link_offset d n k) (length s)) (after_scan base_bounds (planned d n k 0) s) (Err (Unreadable (link_offset d n k)))) (Err (Unreadable 0)) ≡ Err (refusal_of (fed_of (Options 0) (drop 0 s)))
     options true e = counts e (eqb (link_offset d n k) (length s)) refl (eqb k 0) refl
-    options false e = sym (ap Refused (no_options s l e))
+    options false e = sym (ap Err (no_options s l e))

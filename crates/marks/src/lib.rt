@@ -9,19 +9,29 @@ use entries::Entry;
 
 // Two letters and a number.
 #[derive(Clone, Copy)]
-pub struct Mark(pub u8, pub u8, pub usize);
+pub struct Mark {
+    pub first: u8,
+    pub second: u8,
+    pub number: usize,
+}
 
 // The mark and the number of an entry.
+#[tactic(auto, unfolding(crate::specs::Marks::mark_of))]
 pub fn marked(e: Entry) -> Mark
     ensures { result ≡ mark_of e }
 {
-    match e {
-        Entry::Freed(i) => Mark(86, 70, i.0),
-        Entry::Grounded(i) => Mark(71, 78, i.0),
-        Entry::Singular(i) => Mark(83, 71, i.0),
-        Entry::Wild(p) => Mark(78, 70, p),
-        Entry::Stepped(_, flip) => Mark(83, 84, flip_number(flip)),
-        Entry::Converged(flip) => Mark(79, 75, flip_number(flip)),
+    let (first, second, number) = match e {
+        Entry::Freed(i) => (b'V', b'F', i.0),
+        Entry::Grounded(i) => (b'G', b'N', i.0),
+        Entry::Singular(i) => (b'S', b'G', i.0),
+        Entry::Wild(p) => (b'N', b'F', p),
+        Entry::Stepped(_, flip) => (b'S', b'T', flip_number(flip)),
+        Entry::Converged(flip) => (b'O', b'K', flip_number(flip)),
+    };
+    Mark {
+        first,
+        second,
+        number,
     }
 }
 
@@ -30,8 +40,8 @@ pub fn put(entries: &mut [u8], i: usize, m: Mark)
     requires { (i < 65536) × (4 * i + 4 ≤ length entries.old) }
     ensures { entries.new ≡ put_of entries.old i m }
 {
-    entries[4 * i] = m.0;
-    entries[4 * i + 1] = m.1;
-    entries[4 * i + 2] = (m.2 % 256) as u8;
-    entries[4 * i + 3] = (m.2 / 256 % 256) as u8;
+    entries[4 * i] = m.first;
+    entries[4 * i + 1] = m.second;
+    entries[4 * i + 2] = (m.number % 256) as u8;
+    entries[4 * i + 3] = (m.number / 256 % 256) as u8;
 }

@@ -1,81 +1,40 @@
 -- One turn of each loop of a mending. Assumes nothing.
-use Prim.Native.Nat.{ℕ, zero, suc, ◌+◌, ◌-◌, ◌≤◌, ◌<◌}
-use mathlib.Core.Path.{◌≡◌, refl, sym, ap, subst, ◌∙◌}
+use Prim.Native.Nat.{ℕ, ◌+◌, ◌-◌, ◌≤◌, ◌<◌}
+use mathlib.Core.Path.{◌≡◌, refl, sym, ap, ◌∙◌}
 use mathlib.Core.List.{List}
 use native.Mathlib.Omega.{arith}
 use lib.ListN.{length, get_or, set, length-set}
 use lib.Seq.{get_or-set_same, get_or-set_other}
 use Rattle.touching.proofs.Laws.{same_or, below_or}
-use Rattle.mending.specs.Mending.{Sought, Lowered, Raised, Less, More}
+use Rattle.mending.specs.Mending.{Lowered, Raised, Less, More}
+
+-- entries a to b - 1 were copied to d and what follows it, and the others stay
+abbrev pub Copied : (a b d : ℕ) (x₀ x : List ℕ) → Type 0
+Copied a b d x₀ x =
+    ((k e : ℕ) → d ≤ k → k < d + (b - a) → get_or x k e ≡ get_or x₀ (a + (k - d)) e) × ((k e : ℕ) → k < d → get_or x k e ≡ get_or x₀ k e) × ((k e : ℕ) → d + (b - a) ≤ k → get_or x k e ≡ get_or x₀ k e)
 
 -- ---- the entries come one down
 
-pub record Lowering (p : ℕ) (x₀ x : List ℕ) (t : ℕ) : Type 0 where
-  pub from : p ≤ t
-  pub long : length x ≡ length x₀
-  pub done : (k : ℕ) → p ≤ k → k < t → get_or x k 0 ≡ get_or x₀ (k + 1) 0
-  pub below : (k : ℕ) → k < p → get_or x k 0 ≡ get_or x₀ k 0
-  pub left : (k : ℕ) → t ≤ k → get_or x k 0 ≡ get_or x₀ k 0
-
-pub lowering_none : (p : ℕ) (x : List ℕ) → Lowering p x x p
-lowering_none p x = record { from = omega arith; long = refl; done = λ k a b. absurd (omega arith); below = λ k a. refl; left = λ k a. refl }
-
-pub lowering_next : (p : ℕ) (x₀ x : List ℕ) (t : ℕ) → Lowering p x₀ x t → t < length x₀ → Lowering p x₀ (set x t (get_or x (t + 1) 0)) (t + 1)
-lowering_next p x₀ x t v h =
+pub lowered : (p q j : ℕ) (x₀ x : List ℕ) → p ≤ q → q < length x₀ → length x ≡ length x₀ → Copied (p + 1) (q + 1) p x₀ x → Lowered p q j x₀ (set x q j)
+lowered p q j x₀ x pq h long v =
     record {
-      from = omega (arith, v.from);
-      long = length-set x t _ ∙ v.long;
-      done = λ k a b. same_or k t
-          (λ e. rw e (get_or-set_same x t _ 0 (omega (arith, v.long)) ∙ v.left (t + 1) (omega arith)))
-          (λ d. get_or-set_other x t k _ 0 d ∙ v.done k a (below_or k t (λ q. q) (λ q. absurd (d (let e : k ≡ t = omega arith in e)))));
-      below = λ k a. get_or-set_other x t k _ 0 (λ e. omega (arith, v.from)) ∙ v.below k a;
-      left = λ k a. get_or-set_other x t k _ 0 (λ e. omega arith) ∙ v.left k (omega arith);
-    }
-
-pub lowered : (p q j : ℕ) (x₀ x : List ℕ) (t : ℕ) → Lowering p x₀ x t → t ≡ q → q < length x₀ → Lowered p q j x₀ (set x q j)
-lowered p q j x₀ x t v e h =
-    record {
-      long = length-set x q j ∙ v.long;
-      between = λ k a b. get_or-set_other x q k j 0 (λ z. omega arith) ∙ v.done k a (omega arith);
-      put = get_or-set_same x q j 0 (omega (arith, v.long));
-      below = λ k a. get_or-set_other x q k j 0 (λ z. omega (arith, v.from)) ∙ v.below k a;
-      above = λ k a. get_or-set_other x q k j 0 (λ z. omega arith) ∙ v.left k (omega arith);
+      long = length-set x q j ∙ long;
+      between = λ k a b. get_or-set_other x q k j 0 (λ z. omega arith) ∙ v.0 k 0 a (omega arith) ∙ ap (λ (i : ℕ). get_or x₀ i 0) (let e : p + 1 + (k - p) ≡ k + 1 = omega arith in e);
+      put = get_or-set_same x q j 0 (omega arith);
+      below = λ k a. get_or-set_other x q k j 0 (λ z. omega arith) ∙ v.1 k 0 a;
+      above = λ k a. get_or-set_other x q k j 0 (λ z. omega arith) ∙ v.2 k 0 (omega arith);
     }
 
 -- ---- the entries go one up
 
-pub record Raising (p q : ℕ) (x₀ x : List ℕ) (t : ℕ) : Type 0 where
-  pub from : p ≤ t
-  pub to : t ≤ q
-  pub long : length x ≡ length x₀
-  pub done : (k : ℕ) → t ≤ k → k < q → get_or x (k + 1) 0 ≡ get_or x₀ k 0
-  pub left : (k : ℕ) → k ≤ t → get_or x k 0 ≡ get_or x₀ k 0
-  pub above : (k : ℕ) → q < k → get_or x k 0 ≡ get_or x₀ k 0
-
-pub raising_none : (p q : ℕ) (x : List ℕ) → p ≤ q → Raising p q x x q
-raising_none p q x h = record { from = h; to = omega arith; long = refl; done = λ k a b. absurd (omega arith); left = λ k a. refl; above = λ k a. refl }
-
-pub raising_next : (p q : ℕ) (x₀ x : List ℕ) (t : ℕ) → Raising p q x₀ x t → p < t → q < length x₀ → Raising p q x₀ (set x t (get_or x (t - 1) 0)) (t - 1)
-raising_next p q x₀ x t v h b =
+pub raised : (p q j : ℕ) (x₀ x : List ℕ) → p ≤ q → q < length x₀ → length x ≡ length x₀ → Copied p q (p + 1) x₀ x → Raised p q j x₀ (set x p j)
+raised p q j x₀ x pq h long v =
     record {
-      from = omega arith;
-      to = omega (arith, v.to);
-      long = length-set x t _ ∙ v.long;
-      done = λ k a c. same_or (k + 1) t
-          (λ e. rw e (get_or-set_same x t _ 0 (omega (arith, v.long, v.to)) ∙ v.left (t - 1) (omega arith) ∙ ap (λ (z : ℕ). get_or x₀ z 0) (let g : t - 1 ≡ k = omega arith in g)))
-          (λ d. get_or-set_other x t (k + 1) _ 0 d ∙ v.done k (below_or k t (λ z. absurd (d (let g : k + 1 ≡ t = omega arith in g))) (λ z. z)) c);
-      left = λ k a. get_or-set_other x t k _ 0 (λ e. omega arith) ∙ v.left k (omega arith);
-      above = λ k a. get_or-set_other x t k _ 0 (λ e. omega (arith, v.to)) ∙ v.above k a;
-    }
-
-pub raised : (p q j : ℕ) (x₀ x : List ℕ) (t : ℕ) → Raising p q x₀ x t → t ≤ p → q < length x₀ → Raised p q j x₀ (set x p j)
-raised p q j x₀ x t v e h =
-    record {
-      long = length-set x p j ∙ v.long;
-      between = λ k a b. get_or-set_other x p (k + 1) j 0 (λ z. omega arith) ∙ v.done k (omega arith) b;
-      put = get_or-set_same x p j 0 (omega (arith, v.long, v.from, v.to));
-      below = λ k a. get_or-set_other x p k j 0 (λ z. omega arith) ∙ v.left k (omega (arith, v.from));
-      above = λ k a. get_or-set_other x p k j 0 (λ z. omega (arith, v.from, v.to)) ∙ v.above k a;
+      long = length-set x p j ∙ long;
+      between = λ k a b. get_or-set_other x p (k + 1) j 0 (λ z. omega arith) ∙ v.0 (k + 1) 0 (omega arith) (omega arith) ∙ ap (λ (i : ℕ). get_or x₀ i 0) (let e : p + (k + 1 - (p + 1)) ≡ k = omega arith in e);
+      put = get_or-set_same x p j 0 (omega arith);
+      below = λ k a. get_or-set_other x p k j 0 (λ z. omega arith) ∙ v.1 k 0 (omega arith);
+      above = λ k a. get_or-set_other x p k j 0 (λ z. omega arith) ∙ v.2 k 0 (omega arith);
     }
 
 -- ---- the places come one down

@@ -9,10 +9,10 @@ use native.Mathlib.Numerals.{add-one}
 use native.Mathlib.Omega.{arith}
 use borrow.Author.Tests.{eqb-true, eq-eqb, ne_eqb}
 use lib.Dec.{eqb}
-use lib.ListN.{length, get_or, set, drop, length-set, length-append, length-drop, get_or-append}
+use lib.ListN.{length, get_or, set, drop, length-append, length-drop, get_or-append}
 use lib.Seq.{get_or-set_same, get_or-set_other, set-get_or, set-set, ext_get_or}
 use Rattle.touching.specs.Touching.{in_column, touches_at, touching_at, listed_of, place_of, places_of, Joined, Listed}
-use Rattle.touching.proofs.Laws.{same_or, below_or, at_start, at_end, at_neither, count_more, count_grows, place_next, place_grows, entry_is}
+use Rattle.touching.proofs.Laws.{same_or, below_or, at_start, at_neither, count_grows, place_next, place_grows, entry_is}
 use Rattle.touching.proofs.Turns.{places_count, places_at, listed_count, listed_at, behind}
 use Rattle.mending.specs.Mending.{Sought, Lowered, Raised, Less, More, Kept, Goes, Mended}
 use Rattle.mending.proofs.Moves.{before, counted, rank_back, at, at_within, at_listed, listed_by, Moves, swap, count_low, place_low, place_mid, place_high, position}

@@ -1,15 +1,15 @@
 -- One link moved from node x to node y: how its list and the places differ before and after. Assumes nothing.
-use Prim.Native.Nat.{ℕ, zero, suc, ◌+◌, ◌-◌, ◌≤◌, ◌<◌}
+use Prim.Native.Nat.{ℕ, zero, suc, ◌+◌, ◌≤◌, ◌<◌}
 use mathlib.Core.Path.{◌≡◌, refl, sym, ap, subst, ◌∙◌}
-use mathlib.Core.Bool.{Bool, true, false, cond}
+use mathlib.Core.Bool.{Bool, true, false}
 use mathlib.Core.List.{List, [], ◌∷◌, ◌++◌}
 use mathlib.Core.Logic.{⊎_elim}
-use native.Mathlib.Nat.{eq-or-lt_of_le, le_of_suc-le-suc}
+use native.Mathlib.Nat.{eq-or-lt_of_le}
 use native.Mathlib.Omega.{arith}
 use lib.ListN.{length, get_or, get_or-append}
 use lib.Seq.{get_or-append_seam}
 use Rattle.touching.specs.Touching.{touches_at, touching_at, place_of, Listed}
-use Rattle.touching.proofs.Laws.{same_or, below_or, one_more, no_more, count_more, count_same, count_none, count_grows, rank, entry_is, place_none, place_next, place_grows, place_within}
+use Rattle.touching.proofs.Laws.{same_or, below_or, one_more, no_more, count_more, count_same, count_none, count_grows, rank, entry_is, place_none, place_next, place_within}
 
 -- ---- which links are at a node, and where
 

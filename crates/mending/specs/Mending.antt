@@ -1,5 +1,5 @@
 -- What the steps of a mending do to the columns. Definitions only.
-use Rattle.std.specs.Prelude.{ℕ, ◌+◌, ◌-◌, ◌≤◌, ◌<◌, ◌≡◌, List, length, get_or}
+use Rattle.std.specs.Prelude.{ℕ, ◌+◌, ◌≤◌, ◌<◌, ◌≡◌, List, length, get_or}
 use Rattle.touching.specs.Touching.{in_column, place_of, Listed}
 
 -- of the entries from place a to place b, place r is the first whose entry is not below j, or b

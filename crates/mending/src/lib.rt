@@ -25,9 +25,7 @@ fn lower(p: usize, q: usize, j: usize, listed: &mut [usize])
     requires { (p ≤ q) × (q < length listed.old) }
     ensures { Lowered p q j listed.old listed.new }
 {
-    for t in p..q {
-        listed[t] = listed[t + 1];
-    }
+    listed.copy_within(p + 1..q + 1, p);
     listed[q] = j;
 }
 
@@ -36,11 +34,7 @@ fn raise(p: usize, q: usize, j: usize, listed: &mut [usize])
     requires { (p ≤ q) × (q < length listed.old) }
     ensures { Raised p q j listed.old listed.new }
 {
-    let mut t = q;
-    while t > p {
-        listed[t] = listed[t - 1];
-        t -= 1;
-    }
+    listed.copy_within(p..q, p + 1);
     listed[p] = j;
 }
 
@@ -50,10 +44,8 @@ fn place_less(x: usize, y: usize, places: &mut [usize])
     requires by_index { (i : ℕ) → x < i → i ≤ y → 0 < get_or places.old i 0 }
     ensures { Less x y places.old places.new }
 {
-    let mut i = x + 1;
-    while i <= y {
-        places[i] = places[i] - 1;
-        i += 1;
+    for i in x + 1..=y {
+        places[i] -= 1;
     }
 }
 
@@ -63,10 +55,8 @@ fn place_more(x: usize, y: usize, places: &mut [usize])
     requires by_index { (i : ℕ) → x < i → i ≤ y → get_or places.old i 0 < 0xffff_ffff_ffff_ffff }
     ensures { More x y places.old places.new }
 {
-    let mut i = x + 1;
-    while i <= y {
-        places[i] = places[i] + 1;
-        i += 1;
+    for i in x + 1..=y {
+        places[i] += 1;
     }
 }
 

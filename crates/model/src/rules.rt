@@ -1,10 +1,10 @@
 // One decision over the link's kind: its coefficients.
 ghost use Rattle.std.specs.Prelude.{◌≡◌};
-ghost use Rattle.power.specs.Tables.{power_table};
 ghost use Rattle.model.specs.Rules.{coefficients_of};
 
 use coefficient::Coefficients;
 use pipes::pipe_rule;
+use power::PowerTable;
 use records::{Link, LinkKind, Status};
 use valves::valve_rule;
 
@@ -17,9 +17,8 @@ pub fn coefficients(
     excess_end: f64,
     elevation_start: f64,
     elevation_end: f64,
-    table: &[u64; 1153],
+    table: &PowerTable,
 ) -> Coefficients
-    requires { table.now ≡ power_table }
     ensures { result ≡ coefficients_of link status q excess_start excess_end elevation_start elevation_end }
 {
     let kind = link.kind;

@@ -3,15 +3,13 @@
 // 16 hex digits, `-` stands for an absent part.
 #![tactic(auto)]
 
-ghost use Rattle.std.specs.Prelude.{◌≡◌};
-ghost use Rattle.power.specs.Tables.{power_table};
-
 use coefficient::{Coefficients, NodeAddition};
-use records::Link;
+use power::PowerTable;
+use records::{Link, LinkKind, Status};
 use status::Change;
-use std::io;
 use std::io::{Read, Write};
 use std::process::ExitCode;
+use std::{array, io};
 
 // What a record holds: codes and flags, and the floats in order.
 #[derive(Clone, Copy)]
@@ -24,47 +22,32 @@ struct Case {
 }
 
 fn case_of(record: [u8; 76]) -> Case {
-    let x = [
-        patterns::from_bytes(&record, 4),
-        patterns::from_bytes(&record, 12),
-        patterns::from_bytes(&record, 20),
-        patterns::from_bytes(&record, 28),
-        patterns::from_bytes(&record, 36),
-        patterns::from_bytes(&record, 44),
-        patterns::from_bytes(&record, 52),
-        patterns::from_bytes(&record, 60),
-        patterns::from_bytes(&record, 68),
-    ];
     Case {
         what: record[0],
         kind: record[1],
         flag: record[2],
         code: record[3],
-        x: x,
+        x: array::from_fn(|i| patterns::from_bytes(&record, 4 + 8 * i)),
     }
-}
-
-fn hex<W: Write>(writer: &mut W, x: f64) -> io::Result<()> {
-    standard::put_hex(writer, patterns::pattern(x))
 }
 
 fn space<W: Write>(writer: &mut W) -> io::Result<()> {
     standard::put(writer, b" ")
 }
 
-fn addition<W: Write>(writer: &mut W, a: NodeAddition) -> io::Result<()> {
-    if a.given {
-        hex(writer, a.diagonal)?;
+fn addition<W: Write>(writer: &mut W, given: Option<NodeAddition>) -> io::Result<()> {
+    if let Some(a) = given {
+        standard::put_float(writer, a.diagonal)?;
         space(writer)?;
-        return hex(writer, a.rhs);
+        return standard::put_float(writer, a.rhs);
     }
     standard::put(writer, b"- -")
 }
 
 fn print_coefficients<W: Write>(writer: &mut W, c: Coefficients) -> io::Result<()> {
-    hex(writer, c.conductance)?;
+    standard::put_float(writer, c.conductance)?;
     space(writer)?;
-    hex(writer, c.offset)?;
+    standard::put_float(writer, c.offset)?;
     space(writer)?;
     addition(writer, c.upstream)?;
     space(writer)?;
@@ -73,9 +56,9 @@ fn print_coefficients<W: Write>(writer: &mut W, c: Coefficients) -> io::Result<(
 
 fn print_change<W: Write>(writer: &mut W, change: Change) -> io::Result<()> {
     match change {
-        Change::Stays => standard::put(writer, b"-"),
-        Change::Becomes(status, cause) => {
-            standard::put_decimal(writer, records::status_code(status) as u64)?;
+        None => standard::put(writer, b"-"),
+        Some((status, cause)) => {
+            standard::put_decimal(writer, u8::from(status) as u64)?;
             space(writer)?;
             standard::put_decimal(writer, causes::cause_code(cause) as u64)
         }
@@ -85,9 +68,9 @@ fn print_change<W: Write>(writer: &mut W, change: Change) -> io::Result<()> {
 // The record's status and flow are the solve's; the link has others, which must not be read.
 fn link_of(c: Case) -> Link {
     Link {
-        kind: records::link_kind(c.kind),
+        kind: LinkKind::from(c.kind),
         check: c.flag == 1,
-        status: records::status_of(0),
+        status: Status::from(0),
         start: 0,
         end: 0,
         setting: c.x[2],
@@ -100,8 +83,8 @@ fn link_of(c: Case) -> Link {
 
 fn status_case<W: Write>(writer: &mut W, c: Case) -> io::Result<()> {
     let change = status::updated(
-        records::link_kind(c.kind),
-        records::status_of(c.code),
+        LinkKind::from(c.kind),
+        Status::from(c.code),
         c.x[0],
         c.x[1],
         c.x[2],
@@ -113,21 +96,16 @@ fn status_case<W: Write>(writer: &mut W, c: Case) -> io::Result<()> {
 }
 
 fn converged_case<W: Write>(writer: &mut W, c: Case) -> io::Result<()> {
-    if damping::converged(c.x[0], c.x[1], c.flag == 1, c.x[2], c.code as usize, c.x[3]) {
-        return standard::put(writer, b"1");
-    }
-    standard::put(writer, b"0")
+    let stops = damping::converged(c.x[0], c.x[1], c.flag == 1, c.x[2], c.code as usize, c.x[3]);
+    standard::put(writer, if stops { b"1" } else { b"0" })
 }
 
-fn answer<W: Write>(writer: &mut W, c: Case, table: &[u64; 1153]) -> io::Result<()>
-    requires { table.now ≡ power_table }
-{
-    let what = c.what;
-    match what {
+fn answer<W: Write>(writer: &mut W, c: Case, table: &PowerTable) -> io::Result<()> {
+    match c.what {
         0 => {
             let coefficients = model::coefficients(
                 link_of(c),
-                records::status_of(c.code),
+                Status::from(c.code),
                 c.x[0],
                 c.x[5],
                 c.x[6],
@@ -138,17 +116,15 @@ fn answer<W: Write>(writer: &mut W, c: Case, table: &[u64; 1153]) -> io::Result<
             print_coefficients(writer, coefficients)?;
         }
         1 => status_case(writer, c)?,
-        2 => hex(writer, damping::damped(c.x[0], c.x[1], c.x[2], c.x[3]))?,
-        3 => hex(writer, damping::relative_change(c.x[0], c.x[1], c.x[2]))?,
+        2 => standard::put_float(writer, damping::damped(c.x[0], c.x[1], c.x[2], c.x[3]))?,
+        3 => standard::put_float(writer, damping::relative_change(c.x[0], c.x[1], c.x[2]))?,
         _ => converged_case(writer, c)?,
     }
     standard::put(writer, b"\n")
 }
 
 // One record, or false where the input has ended.
-fn step<R: Read, W: Write>(reader: &mut R, writer: &mut W, table: &[u64; 1153]) -> io::Result<bool>
-    requires { table.now ≡ power_table }
-{
+fn step<R: Read, W: Write>(reader: &mut R, writer: &mut W, table: &PowerTable) -> io::Result<bool> {
     let mut record = [0u8; 76];
     let n = standard::fill(reader, &mut record)?;
     if n < 76 {
@@ -158,19 +134,10 @@ fn step<R: Read, W: Write>(reader: &mut R, writer: &mut W, table: &[u64; 1153]) 
     Ok(true)
 }
 
-fn run(rt: &HostRuntime) -> io::Result<()> {
+fn main(rt: HostRuntime) -> ExitCode {
     let mut reader = rt.stdin();
     let mut writer = rt.stdout();
     let table = power::power_table();
-    for _ in 0..100000u32 {
-        if !step(&mut reader, &mut writer, &table)? {
-            return Ok(());
-        }
-    }
-    Ok(())
-}
-
-fn main(rt: HostRuntime) -> ExitCode {
-    let done = run(&rt);
+    let done = standard::take_steps(100000, || step(&mut reader, &mut writer, &table));
     standard::ended(&rt, done)
 }

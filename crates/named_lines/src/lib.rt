@@ -1,46 +1,168 @@
-// The lines that define a name, kept in a lent table: five numbers a line.
+// The lines of a text that define a name, kept in a table by their places.
 #![tactic(auto)]
 
-ghost use Rattle.std.specs.Prelude.{◌≡◌, ◌+◌, ◌*◌, ◌<◌, ◌≤◌, length, set};
-ghost use Rattle.named_lines.specs.Named.{Kept, position_of, rows_of, row_put};
+ghost use Rattle.std.specs.Prelude.{◌≡◌, ◌<◌, ◌≤◌, leb, length, get_or};
+ghost use Rattle.lines.specs.Lines.{passage, line_at};
+ghost use Rattle.named_lines.specs.Named.{nameless, name_of, no_names, found_at, with_line, with_settled};
+ghost use Rattle.named_lines.specs.Table.{Row, row_of};
 
+use codes::LinkKind;
+use line_words::next_word;
+use lines::line_at;
 use spelled::same_bytes;
+use std::marker::Model;
+use word_places::LineWords;
 
-// The number of the line whose name is the word, or `count` where there is none.
-pub fn position(text: &[u8], rows: &[usize], count: usize, word: &[u8]) -> usize
-    requires { Kept text.now rows.now count }
-    ensures { result ≡ position_of word.now (rows_of text.now rows.now count) }
+// What a name is that of.
+#[derive(Clone, Copy, Default)]
+pub enum Kind {
+    #[default]
+    Junction,
+    Reservoir,
+    Tank,
+    Pipe,
+    CheckedPipe,
+    Valve(LinkKind),
+}
+
+// Where the line begins, where its name begins and ends, and where the line begins that settled its status, which is its own at first.
+#[derive(Clone, Copy, Default)]
+pub struct NamedLine {
+    at: usize,
+    from: usize,
+    to: usize,
+    kind: Kind,
+    settled: usize,
+}
+
+// Lines of a text that define a name, in lent rows. A clause sees the text, how many rows there are, and the words of the lines.
+#[derive(Drop)]
+pub struct Table<'a> {
+    text: &'a [u8],
+    rows: &'a mut [NamedLine],
+    count: usize,
+}
+
+impl<'a> Model for Table<'a> {
+    ghost use Rattle.std.specs.Prelude.{take, length};
+    ghost use Rattle.named_lines.specs.Named.{Names};
+
+    ghost Value = { Names };
+
+    ghost use Rattle.named_lines.specs.Table.{rows_of, Kept};
+
+    ghost view = { λ a. record { text = a.text.now; room = length a.rows.now; lines = rows_of a.text.now (take a.count a.rows.now) } };
+
+    ghost invariant = { λ a. Kept a.text.now a.rows.now a.count };
+}
+
+// The line of a text that begins at `at`.
+fn line_from<'a>(text: &'a [u8], at: usize) -> &'a [u8]
+    requires { at ≤ length text.now }
+    ensures { result.now ≡ passage at (line_at text.now at).end text.now }
 {
-    let mut i: usize = 0;
-    while i < count {
-        let p = 5 * i;
-        let from = rows[p + 1];
-        let to = rows[p + 2];
-        if same_bytes(&text[from..to], word) {
-            return i;
+    &text[at..line_at(text, at).end]
+}
+
+impl<'a> Table<'a> {
+    pub fn new(text: &'a [u8], rows: &'a mut [NamedLine]) -> Self
+        ensures { result ≡ no_names text.now (length rows.old) }
+    {
+        Table {
+            text,
+            rows,
+            count: 0,
         }
-        i += 1;
     }
-    i
-}
 
-// Row n: the line from `at` on, its name from `from` up to `to`, its kind; its own line is the one that settled its status.
-pub fn put_row(rows: &mut [usize], n: usize, at: usize, from: usize, to: usize, kind: usize)
-    requires { 5 * n + 5 ≤ length rows.old }
-    ensures { rows.new ≡ row_put rows.old n at from to kind }
-{
-    let p = 5 * n;
-    rows[p] = at;
-    rows[p + 1] = from;
-    rows[p + 2] = to;
-    rows[p + 3] = kind;
-    rows[p + 4] = at;
-}
+    pub fn len(&self) -> usize
+        ensures lines { result ≡ length self.now.lines }
+        ensures room { result ≤ self.now.room }
+    {
+        self.count
+    }
 
-// Row j settled by the line from `at` on.
-pub fn settle(rows: &mut [usize], j: usize, at: usize)
-    requires { 5 * j + 5 ≤ length rows.old }
-    ensures { rows.new ≡ set rows.old (5 * j + 4) at }
-{
-    rows[5 * j + 4] = at;
+    // Whether one more line has no room.
+    pub fn is_full(&self) -> bool
+        ensures { result ≡ leb self.now.room (length self.now.lines) }
+    {
+        self.count == self.rows.len()
+    }
+
+    // Row i.
+    fn row(&self, i: usize) -> NamedLine
+        requires { i < length self.now.lines }
+        ensures { (row_of self.now.text result ≡ get_or self.now.lines i nameless) × Row self.now.text result }
+    {
+        let rows = &self.rows[..self.count];
+        rows[i]
+    }
+
+    #[tactic(auto, unfolding(crate::specs::Table::row_of))]
+    pub fn kind(&self, i: usize) -> Kind
+        requires { i < length self.now.lines }
+        ensures { result ≡ (get_or self.now.lines i nameless).kind }
+    {
+        self.row(i).kind
+    }
+
+    pub fn name(&self, i: usize) -> &'a [u8]
+        requires { i < length self.now.lines }
+        ensures { result.now ≡ name_of (get_or self.now.lines i nameless) }
+    {
+        let row = self.row(i);
+        &self.text[row.from..row.to]
+    }
+
+    pub fn words(&self, i: usize) -> LineWords<'a>
+        requires { i < length self.now.lines }
+        ensures { result ≡ (get_or self.now.lines i nameless).words }
+    {
+        LineWords::of(line_from(self.text, self.row(i).at))
+    }
+
+    // The words of the line that settled the status of line i.
+    pub fn said(&self, i: usize) -> LineWords<'a>
+        requires { i < length self.now.lines }
+        ensures { result ≡ (get_or self.now.lines i nameless).said }
+    {
+        LineWords::of(line_from(self.text, self.row(i).settled))
+    }
+
+    // The number of the line whose name is the word.
+    pub fn position(&self, word: &[u8]) -> Option<usize>
+        ensures { result ≡ found_at word.now self.now.lines }
+    {
+        for i in 0..self.len() {
+            if same_bytes(self.name(i), word) {
+                return Some(i);
+            }
+        }
+        None
+    }
+
+    // The line from `at` on, behind the others.
+    pub fn put(&mut self, at: usize, kind: Kind)
+        requires { (at ≤ length self.old.text) × (length self.old.lines < self.old.room) }
+        ensures { self.new ≡ with_line self.old at kind }
+    {
+        let name = next_word(line_from(self.text, at), 0);
+        self.rows[self.count] = NamedLine {
+            at,
+            from: at + name.start,
+            to: at + name.end,
+            kind,
+            settled: at,
+        };
+        self.count += 1;
+    }
+
+    // Line j settled by the line from `at` on.
+    pub fn settle(&mut self, j: usize, at: usize)
+        requires { (at ≤ length self.old.text) × (j < length self.old.lines) }
+        ensures { self.new ≡ with_settled self.old j at }
+    {
+        let rows: &mut [NamedLine] = self.rows;
+        rows[j].settled = at;
+    }
 }

@@ -15,7 +15,7 @@ use Rattle.layout.specs.declared.places.Layout.{Layout}
 use Rattle.nodes.specs.Nodes.{in_service, serving}
 use borrow.Author.Tests.{ne_eqb}
 use Rattle.numbering.specs.Numbering.{no_unknown, numbered, row_of}
-use Rattle.numbering.specs.declared.Row.TheVariants.{Unknown, Fixed}
+use Rattle.std.specs.Prelude.{None, Some}
 
 module _ (s : List ℕ) (l : Layout) where
   -- ---- one node more
@@ -147,13 +147,13 @@ module _ (s : List ℕ) (l : Layout) (unknowns₀ : List ℕ) where
 -- ---- what a node is in the matrix, of fewer nodes than the mark
 
 module _ (s : List ℕ) (l : Layout) (n : ℕ) (x : List ℕ) (fits : n ≤ length x) (few : n ≤ no_unknown) (i : ℕ) (here : i < n) where
-  pub row_in : in_service s l i ≡ true → row_of (numbered s l n x) i ≡ Unknown (record { 0 = serving s l i })
+  pub row_in : in_service s l i ≡ true → row_of (numbered s l n x) i ≡ Some (record { 0 = serving s l i })
   unfolding row_of
   row_in h =
       let e : get_or (numbered s l n x) i 0 ≡ serving s l i = number_of s l n x fits i here ∙ ap (λ (b : Bool). cond {A = ℕ} b (serving s l i) no_unknown) h in
       rw e (simp (ne_eqb (serving s l i) no_unknown (λ z. omega (arith, at_most s l i))))
 
-  pub row_out : in_service s l i ≡ false → row_of (numbered s l n x) i ≡ Fixed
+  pub row_out : in_service s l i ≡ false → row_of (numbered s l n x) i ≡ None
   unfolding row_of
   row_out h =
       let e : get_or (numbered s l n x) i 0 ≡ no_unknown = number_of s l n x fits i here ∙ ap (λ (b : Bool). cond {A = ℕ} b (serving s l i) no_unknown) h in

@@ -8,52 +8,46 @@ use native.Mathlib.Nat.{eq-or-lt_of_le, le_of_suc-le-suc}
 use native.Mathlib.Omega.{arith}
 use borrow.Author.Tests.{eq-eqb, ne_eqb}
 use lib.Dec.{eqb}
-use lib.ListN.{length, get_or}
+use lib.ListN.{length}
 use Rattle.linear.specs.declared.factorization.UnknownIndex.{UnknownIndex}
 use Rattle.layout.specs.declared.places.Layout.{Layout}
 use Rattle.nodes.specs.Nodes.{in_service, serving}
-use Rattle.numbering.specs.Numbering.{no_unknown, numbered, row_of, row_at, RowsRight, RowBelow, found_by, node_numbered}
-use Rattle.numbering.specs.declared.Row.{Row}
-use Rattle.numbering.specs.declared.Row.TheVariants.{Unknown, Fixed}
+use Rattle.numbering.specs.Numbering.{no_unknown, numbered, row_of, row_at, RowsRight, RowBelow, found_by, node_numbered, Row}
 use Rattle.numbering.proofs.Numbers.{at_most, row_in, row_out, onto, rising}
+use Rattle.std.specs.Prelude.{None, Some}
+use Rattle.std.specs.Option.{option_eq}
 
 pub rows_right : (s : List ℕ) (l : Layout) (x : List ℕ) → l.nodes ≤ length x → l.nodes ≤ no_unknown → RowsRight l s (numbered s l l.nodes x)
 unfolding row_at
 rows_right s l x h f = record { right = λ i k. go i k (in_service s l i) refl }
   where
-    go : (i : ℕ) → i < l.nodes → (b : Bool) → in_service s l i ≡ b → row_of (numbered s l l.nodes x) i ≡ cond (in_service s l i) (Unknown (record { 0 = serving s l i })) Fixed
+    go : (i : ℕ) → i < l.nodes → (b : Bool) → in_service s l i ≡ b → row_of (numbered s l l.nodes x) i ≡ cond (in_service s l i) (Some (record { 0 = serving s l i })) None
     go i k true e = rw e (row_in s l l.nodes x h f i k e)
     go i k false e = rw e (row_out s l l.nodes x h f i k e)
 
 -- ---- one step of the search through the column
 
-pub found_fixed : (row : Row) (u i was : ℕ) → row ≡ Fixed → was ≡ found_by row u i was
+pub found_same : (same : UnknownIndex → UnknownIndex → Bool) (row : Row) (u : UnknownIndex) (i was now : ℕ) (b : Bool) → ((v : UnknownIndex) → same v u ≡ eqb v.0 u.0)
+    → b ≡ option_eq same row (Some u) → now ≡ cond {A = ℕ} b i was → now ≡ found_by row u.0 i was
 unfolding found_by
-found_fixed row u i was e = rw e
-
-pub found_here : (row : Row) (v : UnknownIndex) (u i was : ℕ) → row ≡ Unknown v → v.0 ≡ u → i ≡ found_by row u i was
-unfolding found_by
-found_here row v u i was e h = rw (e, eq-eqb v.0 u h)
-
-pub found_past : (row : Row) (v : UnknownIndex) (u i was : ℕ) → row ≡ Unknown v → (v.0 ≡ u → ⊥) → was ≡ found_by row u i was
-unfolding found_by
-found_past row v u i was e h = rw (e, ne_eqb v.0 u h)
+found_same same None u i was now b f e g = g ∙ ap (λ (t : Bool). cond {A = ℕ} t i was) e
+found_same same (Some v) u i was now b f e g = g ∙ ap (λ (t : Bool). cond {A = ℕ} t i was) (e ∙ f v)
 
 -- ---- rows
 
 abbrev number_of : Row → ℕ
-number_of (Unknown u) = u.0
-number_of Fixed = 0
+number_of (Some u) = u.0
+number_of None = 0
 
 number_most : (s : List ℕ) (l : Layout) (i : ℕ) → number_of (row_at s l i) ≤ i
 unfolding row_at
 number_most s l i = go (in_service s l i)
   where
-    go : (b : Bool) → number_of (cond b (Unknown (record { 0 = serving s l i })) Fixed) ≤ i
+    go : (b : Bool) → number_of (cond b (Some (record { 0 = serving s l i })) None) ≤ i
     go true = at_most s l i
     go false = omega arith
 
-pub row_most : (s : List ℕ) (l : Layout) (i : ℕ) (u : UnknownIndex) → row_at s l i ≡ Unknown u → u.0 ≤ i
+pub row_most : (s : List ℕ) (l : Layout) (i : ℕ) (u : UnknownIndex) → row_at s l i ≡ Some u → u.0 ≤ i
 row_most s l i u h = let e : number_of (row_at s l i) ≡ u.0 = ap number_of h in omega (arith, number_most s l i, e)
 
 pub row_below : (s : List ℕ) (l : Layout) (i n : ℕ) (row : Row) → row ≡ row_at s l i → i < n → n ≤ 64 → RowBelow 64 row
@@ -98,6 +92,6 @@ module _ (s : List ℕ) (l : Layout) where
   unfolding node_numbered row_at found_by
   found_next i u was now row r e f = f ∙ ap (λ (w : Row). found_by w u i was) r ∙ go (in_service s l i) ∙ ap (λ (k : ℕ). cond {A = ℕ} (in_service s l i && eqb (serving s l i) u) i k) e
     where
-      go : (b : Bool) → found_by (cond b (Unknown (record { 0 = serving s l i })) Fixed) u i was ≡ cond {A = ℕ} (b && eqb (serving s l i) u) i was
+      go : (b : Bool) → found_by (cond b (Some (record { 0 = serving s l i })) None) u i was ≡ cond {A = ℕ} (b && eqb (serving s l i) u) i was
       go true = refl
       go false = refl

@@ -4,18 +4,14 @@
 
 ghost use Rattle.std.specs.Prelude.{◌≡◌, ◌<◌, ◌≤◌, length};
 ghost use Rattle.layout.specs.Places.{Laid};
-ghost use Rattle.numbering.specs.Numbering.{numbered, row_of, RowsRight, node_numbered, found_by};
+ghost use Rattle.numbering.specs.Numbering.{numbered, row_of, RowsRight, node_numbered};
 
 use layout::Layout;
 use linear::UnknownIndex;
 use nodes::NodeIndex;
 
 // What a node is in the matrix: an unknown, or none of its rows.
-#[derive(Clone, Copy)]
-pub enum Row {
-    Unknown(UnknownIndex),
-    Fixed,
-}
+pub type Row = Option<UnknownIndex>;
 
 // The mark for "no unknown" in the column of numbers.
 const NO_UNKNOWN: usize = 0xffff_ffff;
@@ -45,20 +41,10 @@ pub fn unknown_of(unknowns: &[usize], node: NodeIndex) -> Row
     let i = node.0;
     let u = unknowns[i];
     if u == NO_UNKNOWN {
-        Row::Fixed
+        None
     } else {
-        Row::Unknown(UnknownIndex(u))
+        Some(UnknownIndex(u))
     }
-}
-
-// The node where its row is the unknown, else what was found before.
-fn found_by(row: Row, unknown: UnknownIndex, i: usize, was: usize) -> usize
-    ensures { result ≡ found_by row unknown.0 i was }
-{
-    let Row::Unknown(v) = row else {
-        return was;
-    };
-    if v.0 == unknown.0 { i } else { was }
 }
 
 // The node of an unknown, found by a search: it is asked for once a failed factorization.
@@ -67,12 +53,11 @@ pub fn node_of(sheet: &[u8], l: Layout, unknowns: &[usize], unknown: UnknownInde
     requires rows_right { RowsRight l sheet.now unknowns.now }
     ensures { result ≡ record { 0 = node_numbered sheet.now l l.nodes unknown.0 } }
 {
-    let mut node: usize = 0;
-    let mut i: usize = 0;
-    while i < l.nodes {
-        let row = unknown_of(unknowns, NodeIndex(i));
-        node = found_by(row, unknown, i, node);
-        i += 1;
+    let mut node = 0;
+    for i in 0..l.nodes {
+        if unknown_of(unknowns, NodeIndex(i)) == Some(unknown) {
+            node = i;
+        }
     }
     NodeIndex(node)
 }

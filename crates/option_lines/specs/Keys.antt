@@ -1,8 +1,9 @@
 -- The lines of OPTIONS: a key of one word or of two, then one value, and what a line is refused with. Definitions only.
-use Rattle.std.specs.Prelude.{ℕ, Bool, false, not, ◌&&◌, ◌||◌, List, Float}
+use Rattle.std.specs.Prelude.{ℕ, Bool, false, not, ◌&&◌, ◌||◌, List, Float, ⊤, Result}
 use Rattle.std.specs.Float.Ieee.{eq}
 use Rattle.constants.specs.Constants.{half, one}
 use Rattle.spelled.specs.Texts.{bytes_of}
+use Rattle.line_fields.specs.declared.LineFault.{LineFault}
 use Rattle.line_fields.specs.Fields.{word_in, has_word, number_at, value_at, keyword_at, fault_of}
 use Rattle.first_words.specs.First.{pair_is}
 use Rattle.option_values.specs.Values.{is_unit, is_count}
@@ -46,7 +47,7 @@ two_words_good ws =
     || (pair_is ws (bytes_of "SPECIFIC") (bytes_of "GRAVITY") && is_value ws 2 one)
     || (pair_is ws (bytes_of "PRESSURE") (bytes_of "EXPONENT") && is_value ws 2 half)
 
-unfoldable pub option_fault : List (List ℕ) → ℕ
+unfoldable pub option_fault : List (List ℕ) → Result ⊤ LineFault
 option_fault ws =
     fault_of
     (passed_key ws

@@ -2,94 +2,93 @@
 #![tactic(auto)]
 
 ghost use Rattle.std.specs.Prelude.{◌≡◌, ◌<◌};
-ghost use Rattle.line_words.specs.Words.{words_of};
-ghost use Rattle.word_places.specs.Places.{Words};
 ghost use Rattle.option_lines.specs.Keys.{passed_key, number_key, number_pair, is_value, one_word_good, two_words_good, option_fault};
 
 use first_words::is_pair;
-use line_fields::{fault, is_keyword, is_number, number_at};
+use line_fields::{LineFault, fault, is_keyword, is_number, number_at};
 use option_values::{count_of, unit_of};
-use word_places::{has_word, word};
+use word_places::LineWords;
 
 // Whether the key is one behind which anything may stand.
-fn is_passed(line: &[u8], places: &[usize; 20]) -> bool
-    requires { Words line.now places.now }
-    ensures { result ≡ passed_key (words_of line.now) }
+#[tactic(auto, unfolding(crate::specs::Keys::passed_key, spelled::specs::Texts::bytes_of))]
+fn is_passed(words: &LineWords<'_>) -> bool
+    ensures { result ≡ passed_key words.now }
 {
-    is_keyword(line, places, 0, b"UNBALANCED")
-        | is_keyword(line, places, 0, b"QUALITY")
-        | is_keyword(line, places, 0, b"MAP")
-        | is_keyword(line, places, 0, b"HYDRAULICS")
+    is_keyword(words, 0, b"UNBALANCED")
+        | is_keyword(words, 0, b"QUALITY")
+        | is_keyword(words, 0, b"MAP")
+        | is_keyword(words, 0, b"HYDRAULICS")
 }
 
 // Whether the key is one of one word that takes a number.
-fn is_number_key(line: &[u8], places: &[usize; 20]) -> bool
-    requires { Words line.now places.now }
-    ensures { result ≡ number_key (words_of line.now) }
+#[tactic(auto, unfolding(crate::specs::Keys::number_key, spelled::specs::Texts::bytes_of))]
+fn is_number_key(words: &LineWords<'_>) -> bool
+    ensures { result ≡ number_key words.now }
 {
-    let kept = is_keyword(line, places, 0, b"ACCURACY")
-        | is_keyword(line, places, 0, b"DAMPLIMIT")
-        | is_keyword(line, places, 0, b"FLOWCHANGE");
-    let passed = is_keyword(line, places, 0, b"VISCOSITY")
-        | is_keyword(line, places, 0, b"DIFFUSIVITY")
-        | is_keyword(line, places, 0, b"TOLERANCE")
-        | is_keyword(line, places, 0, b"HEADERROR")
-        | is_keyword(line, places, 0, b"CHECKFREQ")
-        | is_keyword(line, places, 0, b"MAXCHECK");
+    let kept = is_keyword(words, 0, b"ACCURACY")
+        | is_keyword(words, 0, b"DAMPLIMIT")
+        | is_keyword(words, 0, b"FLOWCHANGE");
+    let passed = is_keyword(words, 0, b"VISCOSITY")
+        | is_keyword(words, 0, b"DIFFUSIVITY")
+        | is_keyword(words, 0, b"TOLERANCE")
+        | is_keyword(words, 0, b"HEADERROR")
+        | is_keyword(words, 0, b"CHECKFREQ")
+        | is_keyword(words, 0, b"MAXCHECK");
     kept | passed
 }
 
 // Whether the key is one of two words that takes a number.
-fn is_number_pair(line: &[u8], places: &[usize; 20]) -> bool
-    requires { Words line.now places.now }
-    ensures { result ≡ number_pair (words_of line.now) }
+#[tactic(auto, unfolding(crate::specs::Keys::number_pair, spelled::specs::Texts::bytes_of))]
+fn is_number_pair(words: &LineWords<'_>) -> bool
+    ensures { result ≡ number_pair words.now }
 {
-    is_pair(line, places, b"DEMAND", b"MULTIPLIER")
-        | is_pair(line, places, b"MINIMUM", b"PRESSURE")
-        | is_pair(line, places, b"REQUIRED", b"PRESSURE")
-        | is_pair(line, places, b"EMITTER", b"EXPONENT")
+    is_pair(words, b"DEMAND", b"MULTIPLIER")
+        | is_pair(words, b"MINIMUM", b"PRESSURE")
+        | is_pair(words, b"REQUIRED", b"PRESSURE")
+        | is_pair(words, b"EMITTER", b"EXPONENT")
 }
 
 // Whether word k is a number, and this one.
-fn is_value(line: &[u8], places: &[usize; 20], k: usize, x: f64) -> bool
-    requires { Words line.now places.now × (k < 10) }
-    ensures { result ≡ is_value (words_of line.now) k x }
+#[tactic(auto, unfolding(crate::specs::Keys::is_value))]
+fn is_value(words: &LineWords<'_>, k: usize, x: f64) -> bool
+    requires { k < 10 }
+    ensures { result ≡ is_value words.now k x }
 {
-    is_number(line, places, k) & (number_at(line, places, k) == x)
+    is_number(words, k) & (number_at(words, k) == x)
 }
 
 // Whether the words are a key of one word and what it takes.
-fn one_word_good(line: &[u8], places: &[usize; 20]) -> bool
-    requires { Words line.now places.now }
-    ensures { result ≡ one_word_good (words_of line.now) }
+#[tactic(auto, unfolding(crate::specs::Keys::one_word_good, option_values::specs::Values::is_unit, option_values::specs::Values::count_of, spelled::specs::Texts::bytes_of))]
+fn one_word_good(words: &LineWords<'_>) -> bool
+    ensures { result ≡ one_word_good words.now }
 {
-    let value = word(line, places, 1);
-    let unit = is_keyword(line, places, 0, b"UNITS") & (unit_of(value) < 11);
-    let trials = is_keyword(line, places, 0, b"TRIALS") & (count_of(value) < 65536);
-    let formula = is_keyword(line, places, 0, b"HEADLOSS") & is_keyword(line, places, 1, b"H-W");
-    let number = is_number_key(line, places) & is_number(line, places, 1);
-    unit | trials | formula | number | is_keyword(line, places, 0, b"PATTERN")
+    let value = words.word(1);
+    let unit = is_keyword(words, 0, b"UNITS") & unit_of(value).is_some();
+    let trials = is_keyword(words, 0, b"TRIALS") & count_of(value).is_some();
+    let formula = is_keyword(words, 0, b"HEADLOSS") & is_keyword(words, 1, b"H-W");
+    let number = is_number_key(words) & is_number(words, 1);
+    unit | trials | formula | number | is_keyword(words, 0, b"PATTERN")
 }
 
 // Whether the words are a key of two words and what it takes.
-fn two_words_good(line: &[u8], places: &[usize; 20]) -> bool
-    requires { Words line.now places.now }
-    ensures { result ≡ two_words_good (words_of line.now) }
+#[tactic(auto, unfolding(crate::specs::Keys::two_words_good, spelled::specs::Texts::bytes_of))]
+fn two_words_good(words: &LineWords<'_>) -> bool
+    ensures { result ≡ two_words_good words.now }
 {
-    let number = is_number_pair(line, places) & is_number(line, places, 2);
-    let model = is_pair(line, places, b"DEMAND", b"MODEL")
-        & (is_keyword(line, places, 2, b"DDA") | is_keyword(line, places, 2, b"PDA"));
-    let gravity = is_pair(line, places, b"SPECIFIC", b"GRAVITY") & is_value(line, places, 2, 1.0);
-    let exponent = is_pair(line, places, b"PRESSURE", b"EXPONENT") & is_value(line, places, 2, 0.5);
+    let number = is_number_pair(words) & is_number(words, 2);
+    let model = is_pair(words, b"DEMAND", b"MODEL")
+        & (is_keyword(words, 2, b"DDA") | is_keyword(words, 2, b"PDA"));
+    let gravity = is_pair(words, b"SPECIFIC", b"GRAVITY") & is_value(words, 2, 1.0);
+    let exponent = is_pair(words, b"PRESSURE", b"EXPONENT") & is_value(words, 2, 0.5);
     number | model | gravity | exponent
 }
 
-// 10 for a line that is no option, else 0.
-pub fn option_fault(line: &[u8], places: &[usize; 20]) -> u64
-    requires { Words line.now places.now }
-    ensures { result ≡ option_fault (words_of line.now) }
+// A line that is no option cannot be read.
+#[tactic(auto, unfolding(crate::specs::Keys::option_fault))]
+pub fn option_fault(words: &LineWords<'_>) -> Result<(), LineFault>
+    ensures { result ≡ option_fault words.now }
 {
-    let one = has_word(line, places, 1) & !has_word(line, places, 2) & one_word_good(line, places);
-    let two = has_word(line, places, 2) & !has_word(line, places, 3) & two_words_good(line, places);
-    fault(is_passed(line, places) | one | two, false)
+    let one = words.has(1) & !words.has(2) & one_word_good(words);
+    let two = words.has(2) & !words.has(3) & two_words_good(words);
+    fault(is_passed(words) | one | two, false)
 }

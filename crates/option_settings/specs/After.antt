@@ -1,16 +1,19 @@
 -- What the options of a text come to after a line, each by what it was before. Definitions only.
 use Rattle.std.specs.Prelude.{ℕ, Bool, cond, List, Float}
+use Rattle.std.specs.Option.{unwrap_or}
 use Rattle.spelled.specs.Texts.{bytes_of}
 use Rattle.line_fields.specs.Fields.{word_in, value_at, keyword_at}
 use Rattle.first_words.specs.First.{pair_is}
 use Rattle.option_values.specs.Values.{unit_of, count_of}
 use Rattle.text_settings.specs.declared.Settings.{Settings}
 
+-- 11 for a word that is no unit
 unfoldable pub unit_after : List (List ℕ) → ℕ → ℕ
-unit_after ws before = cond {A = ℕ} (keyword_at ws 0 (bytes_of "UNITS")) (unit_of (word_in ws 1)) before
+unit_after ws before = cond {A = ℕ} (keyword_at ws 0 (bytes_of "UNITS")) (unwrap_or (unit_of (word_in ws 1)) 11) before
 
+-- 65536 for a word that is no count
 unfoldable pub trials_after : List (List ℕ) → ℕ → ℕ
-trials_after ws before = cond {A = ℕ} (keyword_at ws 0 (bytes_of "TRIALS")) (count_of (word_in ws 1)) before
+trials_after ws before = cond {A = ℕ} (keyword_at ws 0 (bytes_of "TRIALS")) (unwrap_or (count_of (word_in ws 1)) 65536) before
 
 unfoldable pub number_after : List (List ℕ) → List ℕ → Float → Float
 number_after ws key before = cond (keyword_at ws 0 key) (value_at ws 1) before

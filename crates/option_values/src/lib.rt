@@ -2,79 +2,55 @@
 #![tactic(auto)]
 
 ghost use Rattle.std.specs.Prelude.{◌≡◌};
-ghost use Rattle.decimal_words.specs.Numbers.{is_digit};
 ghost use Rattle.option_values.specs.Values.{unit_of, count_of};
 
+use decimal_words::{all_digits, value_from};
 use spelled::spells;
 
-// The code of a flow unit, or 11 where a word is none.
-pub fn unit_of(word: &[u8]) -> usize
+// The code of a flow unit.
+#[tactic(auto, unfolding(crate::specs::Values::unit_of, crate::specs::Values::flow_units, line_fields::specs::Fields::first_of, spelled::specs::Texts::bytes_of))]
+pub fn unit_of(word: &[u8]) -> Option<usize>
     ensures { result ≡ unit_of word.now }
 {
     if spells(word, b"CFS") {
-        return 0;
+        Some(0)
+    } else if spells(word, b"GPM") {
+        Some(1)
+    } else if spells(word, b"MGD") {
+        Some(2)
+    } else if spells(word, b"IMGD") {
+        Some(3)
+    } else if spells(word, b"AFD") {
+        Some(4)
+    } else if spells(word, b"LPS") {
+        Some(5)
+    } else if spells(word, b"LPM") {
+        Some(6)
+    } else if spells(word, b"MLD") {
+        Some(7)
+    } else if spells(word, b"CMS") {
+        Some(8)
+    } else if spells(word, b"CMH") {
+        Some(9)
+    } else if spells(word, b"CMD") {
+        Some(10)
+    } else {
+        None
     }
-    if spells(word, b"GPM") {
-        return 1;
-    }
-    if spells(word, b"MGD") {
-        return 2;
-    }
-    if spells(word, b"IMGD") {
-        return 3;
-    }
-    if spells(word, b"AFD") {
-        return 4;
-    }
-    if spells(word, b"LPS") {
-        return 5;
-    }
-    if spells(word, b"LPM") {
-        return 6;
-    }
-    if spells(word, b"MLD") {
-        return 7;
-    }
-    if spells(word, b"CMS") {
-        return 8;
-    }
-    if spells(word, b"CMH") {
-        return 9;
-    }
-    if spells(word, b"CMD") {
-        return 10;
-    }
-    11
 }
 
-// Whether a byte is a digit.
-fn is_digit(c: u8) -> bool
-    ensures { result ≡ is_digit c }
-{
-    (b'0' <= c) & (c <= b'9')
-}
-
-// A count in digits alone, or 65536 where a word is none.
-pub fn count_of(word: &[u8]) -> usize
+// A count in digits alone, up to 65535.
+#[tactic(auto, unfolding(crate::specs::Values::count_of, crate::specs::Values::is_count))]
+pub fn count_of(word: &[u8]) -> Option<usize>
     ensures { result ≡ count_of word.now }
 {
-    if word.len() == 0 {
-        return 65536;
+    let few = all_digits(word) & (0 < word.len()) & (word.len() <= 17);
+    if !few {
+        return None;
     }
-    if 17 < word.len() {
-        return 65536;
+    let count = value_from(0, word);
+    if 65535 < count {
+        return None;
     }
-    let mut v: usize = 0;
-    let mut i: usize = 0;
-    while i < word.len() {
-        if !is_digit(word[i]) {
-            return 65536;
-        }
-        v = v * 10 + (word[i] - b'0') as usize;
-        i += 1;
-    }
-    if 65535 < v {
-        return 65536;
-    }
-    v
+    Some(count as usize)
 }

@@ -2,13 +2,12 @@
 #![tactic(auto)]
 
 ghost use Rattle.std.specs.Prelude.{◌≡◌};
-ghost use Rattle.power.specs.Tables.{power_table};
 ghost use Rattle.pipes.specs.Pipe.{friction_of, with_minor, with_barrier, pipe_of};
 
 use coefficient::{Coefficients, simple};
 use constants::{BIG_VALUE, CV_HEAD_EPSILON, H_EXPONENT, Q_ZERO, RQ_TOL};
 use float::{abs, signum, whole_power};
-use power::power;
+use power::{PowerTable, power};
 use records::Status;
 use roots::root;
 
@@ -20,8 +19,7 @@ pub struct Loss {
 }
 
 // Friction; linear where the gradient is very small.
-fn friction(q_abs: f64, r: f64, table: &[u64; 1153]) -> Loss
-    requires { table.now ≡ power_table }
+fn friction(q_abs: f64, r: f64, table: &PowerTable) -> Loss
     ensures { result ≡ friction_of q_abs r }
 {
     let hgrad = H_EXPONENT * r * power(q_abs, table);
@@ -70,9 +68,8 @@ pub fn pipe_rule(
     r: f64,
     status: Status,
     q: f64,
-    table: &[u64; 1153],
+    table: &PowerTable,
 ) -> Coefficients
-    requires { table.now ≡ power_table }
     ensures { result ≡ pipe_of check ml r status q }
 {
     match status {

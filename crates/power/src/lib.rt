@@ -4,4 +4,4 @@
 mod recipe;
 
 pub use recipe::{power, power_871};
-pub use tables::{power_table, power_table_871};
+pub use tables::{PowerTable, PowerTable871, power_table, power_table_871};

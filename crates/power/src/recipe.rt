@@ -2,10 +2,8 @@
 ghost use Rattle.std.specs.Prelude.{◌≡◌, ◌-◌, ◌*◌, ◌/◌, ◌^◌, ◌≤◌, ◌<◌, T};
 ghost use Rattle.power.specs.Power.{power_by, power_of, power871};
 ghost use Rattle.tables.specs.Entries.{nan_free};
-ghost use Rattle.tables.specs.Tables.{power_table};
-ghost use Rattle.tables.specs.Tables871.{power_table871};
 
-use tables::{entry_a, entry_b};
+use tables::{PowerTable, PowerTable871, entry_a, entry_b};
 
 // The place in B of the binary exponent e of a pattern: e signed, negated, and offset by 63.
 fn place(p: u64) -> usize
@@ -47,17 +45,15 @@ fn power_by(x: f64, table: &[u64; 1153]) -> f64
 }
 
 // x^0.852.
-pub fn power(x: f64, table: &[u64; 1153]) -> f64
-    requires { table.now ≡ power_table }
+pub fn power(x: f64, table: &PowerTable) -> f64
     ensures { result ≡ power_of x }
 {
-    power_by(x, table)
+    power_by(x, &table.entries)
 }
 
 // x^0.871.
-pub fn power_871(x: f64, table: &[u64; 1153]) -> f64
-    requires { table.now ≡ power_table871 }
+pub fn power_871(x: f64, table: &PowerTable871) -> f64
     ensures { result ≡ power871 x }
 {
-    power_by(x, table)
+    power_by(x, &table.entries)
 }

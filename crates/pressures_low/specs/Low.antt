@@ -1,10 +1,9 @@
 -- Line 8 of the verdict: the junction in service whose pressure is too low. Definitions only.
-use Rattle.std.specs.Prelude.{ℕ, Bool, not, ◌&&◌, ◌||◌, List, get_or, Float}
+use Rattle.std.specs.Prelude.{ℕ, Bool, not, ◌&&◌, ◌||◌, List, get_or, Float, Option}
 use Rattle.std.specs.Float.{nan}
 use Rattle.std.specs.Float.Ieee.{lt, le}
 use Rattle.layout.specs.declared.places.Layout.{Layout}
 use Rattle.found.specs.Searches.{first_of}
-use Rattle.found.specs.declared.Found.{Found}
 use Rattle.constants.specs.Arithmetic.{minus}
 use Rattle.constants.specs.Constants as constant
 use Rattle.nodes.specs.Nodes.{node_of, in_service}
@@ -19,6 +18,6 @@ unfolding too_low
 low_at s l heads lowest i = in_service s l i && too_low (node_of s l i).demand (minus (get_or heads i nan) (node_of s l i).elevation) lowest
 
 -- the lowest-numbered one
-unfoldable pub low_of : List ℕ → Layout → List Float → Float → Found
+unfoldable pub low_of : List ℕ → Layout → List Float → Float → Option ℕ
 unfolding low_at
 low_of s l heads lowest = first_of (low_at s l heads lowest) l.nodes

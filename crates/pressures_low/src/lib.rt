@@ -5,9 +5,9 @@ ghost use Rattle.std.specs.Prelude.{◌≡◌, ◌<◌, ◌≤◌, length};
 ghost use Rattle.layout.specs.Places.{Laid};
 ghost use Rattle.pressures_low.specs.Low.{too_low, low_at, low_of};
 
-use found::Found;
 use layout::Layout;
 use nodes::{in_service, node};
+use search::first_where;
 
 // Whether a pressure is not at least 0, or, where there is a demand, not at least the lowest. A NaN
 // is not at least anything, and nothing is at least a NaN.
@@ -29,15 +29,10 @@ fn is_low(sheet: &[u8], l: Layout, i: usize, heads: &[f64], lowest: f64) -> bool
 }
 
 // The lowest-numbered one.
-pub fn low(sheet: &[u8], l: Layout, heads: &[f64], lowest: f64) -> Found
+pub fn low(sheet: &[u8], l: Layout, heads: &[f64], lowest: f64) -> Option<usize>
     requires laid { Laid l sheet.now }
     requires nodes_in_bounds { l.nodes ≤ length heads.now }
     ensures { result ≡ low_of sheet.now l heads.now lowest }
 {
-    for i in 0..l.nodes {
-        if is_low(sheet, l, i, heads, lowest) {
-            return Found::At(i);
-        }
-    }
-    Found::Nothing
+    first_where(l.nodes, |i| is_low(sheet, l, i, heads, lowest))
 }

@@ -10,12 +10,8 @@ use lib.Seq.{drop-nil, get_or-set_same, get_or-set_other}
 use lib.Ieee.{Float}
 use Rattle.nodes.specs.Nodes.{in_service, serving}
 use Rattle.sheet.specs.Read.{read_of}
-use Rattle.found.specs.declared.Found.TheVariants.{At}
 use Rattle.layout.specs.declared.places.Layout.{Layout}
-use Rattle.sheet.specs.declared.reading.Reading.TheVariants.{Good}
-use Rattle.linear.specs.Factorization.{factor_of}
-use Rattle.linear.specs.declared.factorization.Factored.{Factored}
-use Rattle.linear.specs.declared.factorization.Factored.TheVariants.{Done, Stopped}
+use Rattle.linear.specs.Factorization.{factor_of, Factored}
 use Rattle.linear.proofs.Laws.{stops_below}
 use Rattle.numbering.specs.Numbering.{node_numbered}
 use Rattle.numbering.proofs.Rows.{node_of}
@@ -33,9 +29,7 @@ use Rattle.tanks.proofs.Kept.{tank_demands_long, tank_codes_long}
 use Rattle.damping.specs.declared.steps.Damping.{Damping}
 use Rattle.entries.specs.declared.Entry.{Entry}
 use Rattle.trial.specs.Trial.{Room, Outcome, repair_of, step_of, system_of, trial_of}
-use Rattle.entries.specs.Entries.{going_of}
-use Rattle.entries.specs.declared.Going.{Going}
-use Rattle.entries.specs.declared.Going.TheVariants.{On, Over}
+use Rattle.entries.specs.Entries.{going_of, Going}
 use Rattle.runs.specs.Run.{then_run, run_with}
 use Rattle.solver.specs.Solve.{trials_of, start_of}
 use Rattle.solver.proofs.Laws.{network_of}
@@ -47,6 +41,8 @@ use Rattle.promises.specs.Statements.{SolveRepairsEnd}
 use Rattle.promises.proofs.Never.{other, never}
 use Rattle.promises.proofs.Repairs.{regulates, ways, step_holds}
 use Rattle.promises.proofs.Trials.{unmoved, shifted, on_damping}
+use Rattle.std.specs.Prelude.{Err, Ok, Some}
+use Rattle.std.proofs.Common.{Break, Continue}
 
 -- ---- counting
 
@@ -116,14 +112,14 @@ pub record Lowered (s : List ℕ) (l : Layout) (t u : State) : Type 0 where
   pub by_one : left s l t ≡ suc (left s l u)
 
 -- a factorization stops at a junction in service, where the unknowns are those
-module _ (s : List ℕ) (l : Layout) (right : l.unknowns ≡ serving s l l.nodes) (t : State) (v : ℕ) (e : stop_of s l t ≡ At v) where
+module _ (s : List ℕ) (l : Layout) (right : l.unknowns ≡ serving s l l.nodes) (t : State) (v : ℕ) (e : stop_of s l t ≡ Some v) where
   pub stop_node_lem : (v < l.nodes) × (in_service s l v ≡ true)
   unfolding stop_of stop_node
   stop_node_lem = go (factor_of l.unknowns (system_of s l t).matrix).answer refl e
     where
-      go : (f : Factored) → (factor_of l.unknowns (system_of s l t).matrix).answer ≡ f → stop_node s l f ≡ At v → (v < l.nodes) × (in_service s l v ≡ true)
-      go Done p q = other (cc)
-      go (Stopped u) p q =
+      go : (f : Factored) → (factor_of l.unknowns (system_of s l t).matrix).answer ≡ f → stop_node s l f ≡ Some v → (v < l.nodes) × (in_service s l v ≡ true)
+      go (Ok tt) p q = other (cc)
+      go (Err u) p q =
           let w = node_of s l l.nodes u.0 (omega (arith, stops_below l.unknowns (system_of s l t).matrix u p, right)) in
           let at : node_numbered s l l.nodes u.0 ≡ v = cc in
           (omega (arith, w.below, at), ap (in_service s l) (sym at) ∙ w.works)
@@ -153,10 +149,10 @@ module _ (s : List ℕ) (l : Layout) (right : l.unknowns ≡ serving s l l.nodes
 
 -- a failed trial after which the run goes on lowers what is left
 module _ (s : List ℕ) (l : Layout) (right : l.unknowns ≡ serving s l l.nodes) (d : Damping) (t : State) (m : Room l t) where
-  pub trial_lowers : (d' : Damping) → fails (trial_of s l d t).entry ≡ true → going_of d (trial_of s l d t).entry ≡ On d' → Lowered s l t (trial_of s l d t).state
+  pub trial_lowers : (d' : Damping) → fails (trial_of s l d t).entry ≡ true → going_of d (trial_of s l d t).entry ≡ Continue d' → Lowered s l t (trial_of s l d t).state
   unfolding going_of
   trial_lowers d' =
-      ways s l d t (λ o. fails o.entry ≡ true → going_of d o.entry ≡ On d' → Lowered s l t o.state)
+      ways s l d t (λ o. fails o.entry ≡ true → going_of d o.entry ≡ Continue d' → Lowered s l t o.state)
       (λ j w f g. freed_lowers s l right t m j w) (λ v w f g. grounded_lowers s l right t m v w)
       (λ v w f g. other (cc)) (λ g y x f on. never (sym (step_holds s l d t g y x) ∙ f))
 
@@ -208,12 +204,12 @@ module _ (s : List ℕ) (l : Layout) (right : l.unknowns ≡ serving s l l.nodes
       go : (o : Outcome) (g : Going) → going_of p.damping o.entry ≡ g
           → ((p : Point) → Room l p.state → failing (run_at s l m p).entries ≤ suc (left s l p.state))
           → Room l o.state
-          → ((d' : Damping) → fails o.entry ≡ true → going_of p.damping o.entry ≡ On d' → Lowered s l p.state o.state)
+          → ((d' : Damping) → fails o.entry ≡ true → going_of p.damping o.entry ≡ Continue d' → Lowered s l p.state o.state)
           → failing (then_run o.entry o.state g (run_with repair_of s l m)).entries ≤ suc (left s l p.state)
-      go o (On d') e ih wide low =
+      go o (Continue d') e ih wide low =
           failing_cons o.entry (run_with repair_of s l m d' o.state).entries (left s l p.state)
           (λ h. omega (arith, ih (point d' o.state) wide, (low d' h e).by_one))
-      go o (Over z) e ih wide low = failing_cons o.entry [] (left s l p.state) (λ h. omega (arith, failing_none))
+      go o (Break z) e ih wide low = failing_cons o.entry [] (left s l p.state) (λ h. omega (arith, failing_none))
 
   from_any : (i m : ℕ) (p : Point) → Room l p.state → failing (drop i (run_at s l m p).entries) ≤ suc (left s l (after_trials s l i p).state)
   unfolding run_with then_run next
@@ -227,8 +223,8 @@ module _ (s : List ℕ) (l : Layout) (right : l.unknowns ≡ serving s l l.nodes
           → ((p : Point) → Room l p.state → failing (drop i (run_at s l m p).entries) ≤ suc (left s l (after_trials s l i p).state))
           → Room l o.state
           → failing (drop (suc i) (then_run o.entry o.state g (run_with repair_of s l m)).entries) ≤ suc (left s l (after_trials s l i (point (damping_after p.damping o.entry) o.state)).state)
-      go o q (On d') e ih wide = rw (on_damping p.damping d' o.entry e) (ih (point d' o.state) wide)
-      go o q (Over z) e ih wide = rw (drop-nil {A = Entry} i) (omega (arith, failing_none))
+      go o q (Continue d') e ih wide = rw (on_damping p.damping d' o.entry e) (ih (point d' o.state) wide)
+      go o q (Break z) e ih wide = rw (drop-nil {A = Entry} i) (omega (arith, failing_none))
 
   -- Demand 3: with U junctions in service and V regulators Active where a run of failed trials begins, it is at most V + U + 1 trials long. For every number of nodes, links and trials.
   pub repairs_end : (i m : ℕ) (p : Point) → Room l p.state
@@ -244,7 +240,7 @@ room_after s l right (suc i) p w = trial_room s l right (after_trials s l i p).d
 
 -- ---- a solve
 
-pub start_room : (s : List ℕ) (l : Layout) → read_of s ≡ Good l → Room l (start_of s l)
+pub start_room : (s : List ℕ) (l : Layout) → read_of s ≡ Ok l → Room l (start_of s l)
 unfolding start_of
 start_room s l e =
     let w = network_of s l e in

@@ -17,26 +17,20 @@ use Rattle.sheet.proofs.Laws.{and_left, and_right}
 use Rattle.refusals.specs.Refusals.{number_of, place_of}
 use Rattle.refusals.specs.declared.refusals.Refusal.{Refusal}
 use Rattle.refusals.specs.declared.refusals.Refusal.TheVariants.{Unreadable, NodeCount, LinkCount, Field, Ends}
-use Rattle.sheet.specs.Read.{read_of}
-use Rattle.found.specs.declared.Found.TheVariants.{At}
+use Rattle.sheet.specs.Read.{read_of, Reading}
 use Rattle.layout.specs.declared.places.Layout.{Layout}
-use Rattle.sheet.specs.declared.reading.Reading.{Reading}
-use Rattle.sheet.specs.declared.reading.Reading.TheVariants.{Good, Refused}
 use Rattle.accepted.specs.Accepted.{cause_of, number_in}
 use Rattle.accepted.proofs.Accepts.{cause, accepts}
 use Rattle.nodes.specs.declared.NodeIndex.{NodeIndex}
 use Rattle.state.specs.State.{State}
 use Rattle.damping.specs.declared.steps.Damping.{Damping}
 use Rattle.entries.specs.declared.Entry.{Entry}
-use Rattle.causes.specs.declared.Flip.{Flip}
 use Rattle.entries.specs.declared.Entry.TheVariants.{Freed, Grounded, Singular, Wild, Stepped, Converged}
 use Rattle.trial.specs.Trial.{Outcome, repair_of}
-use Rattle.entries.specs.Entries.{going_of, none, tallied, no_entry}
+use Rattle.entries.specs.Entries.{going_of, none, tallied, no_entry, Going}
 use Rattle.marks.specs.Marks.{written}
 use Rattle.entries.specs.declared.Ended.{Ended}
 use Rattle.entries.specs.declared.Ended.TheVariants.{Balanced, Failed, Strayed, Limit}
-use Rattle.entries.specs.declared.Going.{Going}
-use Rattle.entries.specs.declared.Going.TheVariants.{On, Over}
 use Rattle.entries.specs.declared.Tally.{Tally}
 use Rattle.runs.specs.Run.{then_run, run_with}
 use Rattle.answers.specs.Answers.{Lent, Solved, failed_of, refused_of}
@@ -53,6 +47,9 @@ use Rattle.promises.proofs.Trials.{solve_each_state, solve_last_state}
 use Rattle.promises.proofs.EachEntry.{solve_each_entry}
 use Rattle.promises.proofs.Solves.{comes, ways, tells}
 use Rattle.promises.proofs.Counts.{trials_are}
+use Rattle.std.specs.Prelude.{Err, Ok, Some}
+use Rattle.std.proofs.Common.{Break, Continue}
+use Rattle.causes.specs.Causes.{Flip}
 
 module _ (s : List ℕ) (l : Layout) (m : ℕ) (x : Lent) (t : State) (tally : Tally) (bytes : List ℕ) where
   told_number : (z : Ended) → (told s l m x t tally bytes z).answer.number ≡ end_number z
@@ -70,11 +67,11 @@ module _ (s : List ℕ) (l : Layout) (m : ℕ) (x : Lent) (t : State) (tally : T
   told_place Limit = refl
 
 module _ (s : List ℕ) (x : Lent) where
-  by_sheet : (r : Refusal) → read_of s ≡ Refused r → solve_of s x ≡ refused_of (number_of r) (place_of r) x
+  by_sheet : (r : Refusal) → read_of s ≡ Err r → solve_of s x ≡ refused_of (number_of r) (place_of r) x
   unfolding solve_with after_read
   by_sheet r e = rw e
 
-  by_buffer : (l : Layout) (place : ℕ) → read_of s ≡ Good l → short_in s l x ≡ At place → solve_of s x ≡ refused_of 5 place x
+  by_buffer : (l : Layout) (place : ℕ) → read_of s ≡ Ok l → short_in s l x ≡ Some place → solve_of s x ≡ refused_of 5 place x
   unfolding solve_with after_read after_short short_in
   by_buffer l place e q = rw (e, q)
 
@@ -164,8 +161,8 @@ pub refused_by_sheet : RefusedBySheet
 refused_by_sheet s x h = go (read_of s) refl
   where
     go : (r : Reading) → read_of s ≡ r → (solve_of s x).answer.number ≡ cause_of base_bounds s
-    go (Refused r) e = (told_of_cause s x (number_of r) (place_of r) (sheet r e)).0 ∙ sym (ap number_in e) ∙ sheet_number s
-    go (Good l) e = let p : 0 ≡ cause_of base_bounds s = sym (ap number_in e) ∙ sheet_number s in absurd (let y : ⊥ = omega arith in y)
+    go (Err r) e = (told_of_cause s x (number_of r) (place_of r) (sheet r e)).0 ∙ sym (ap number_in e) ∙ sheet_number s
+    go (Ok l) e = let p : 0 ≡ cause_of base_bounds s = sym (ap number_in e) ∙ sheet_number s in absurd (let y : ⊥ = omega arith in y)
 
 -- and these numbers are given in no other case.
 pub sheet_only : SheetOnly
@@ -178,10 +175,10 @@ sheet_only s x a b = go (solve_of s x).answer.number (solve_of s x).answer.place
 
 module _ (s : List ℕ) (x : Lent) where
   -- ---- 5: the lowest buffer that is too short, for an accepted sheet
-  pub short_only : (solve_of s x).answer.number ≡ 5 → (l : Layout) × ((read_of s ≡ Good l) × (short_in s l x ≡ At (solve_of s x).answer.place))
+  pub short_only : (solve_of s x).answer.number ≡ 5 → (l : Layout) × ((read_of s ≡ Ok l) × (short_in s l x ≡ Some (solve_of s x).answer.place))
   short_only a = go (solve_of s x).answer.number (solve_of s x).answer.place (cause_of_told s x) a
     where
-      go : (n p : ℕ) → Cause s x n p → n ≡ 5 → (l : Layout) × ((read_of s ≡ Good l) × (short_in s l x ≡ At p))
+      go : (n p : ℕ) → Cause s x n p → n ≡ 5 → (l : Layout) × ((read_of s ≡ Ok l) × (short_in s l x ≡ Some p))
       go n p (sheet r e) a = absurd (let y : ⊥ = omega (arith, most_four r) in y)
       go n p (short l q e f) a = (l, (e, f))
       go n p (ended l w) a = absurd (end_past (run_in s l).ended (omega arith) (omega arith))
@@ -198,7 +195,7 @@ module _ (s : List ℕ) (x : Lent) where
 
 -- ---- how a run ends
 
-going_end : (d d' : Damping) (e : Entry) → going_of d e ≡ On d' → end_by e ≡ Limit
+going_end : (d d' : Damping) (e : Entry) → going_of d e ≡ Continue d' → end_by e ≡ Limit
 unfolding going_of end_by
 going_end d d' (Freed i) h = refl
 going_end d d' (Grounded i) h = refl
@@ -207,7 +204,7 @@ going_end d d' (Wild p) h = other (cc)
 going_end d d' (Stepped x flip) h = refl
 going_end d d' (Converged flip) h = other (cc)
 
-over_end : (d : Damping) (z : Ended) (e : Entry) → going_of d e ≡ Over z → end_by e ≡ z
+over_end : (d : Damping) (z : Ended) (e : Entry) → going_of d e ≡ Break z → end_by e ≡ z
 unfolding going_of end_by
 over_end d z (Freed i) h = other (cc)
 over_end d z (Grounded i) h = other (cc)
@@ -216,7 +213,7 @@ over_end d z (Wild p) h = cc
 over_end d z (Stepped x flip) h = other (cc)
 over_end d z (Converged flip) h = cc
 
-over_limit : (d : Damping) (e : Entry) → going_of d e ≡ Over Limit → ⊥
+over_limit : (d : Damping) (e : Entry) → going_of d e ≡ Break Limit → ⊥
 unfolding going_of
 over_limit d (Freed i) h = other (cc)
 over_limit d (Grounded i) h = other (cc)
@@ -234,7 +231,7 @@ last_one : (e : Entry) → end_by (get_or (e ∷ []) (length (e ∷ []) - 1) no_
 last_one e = refl
 
 module _ (s : List ℕ) (l : Layout) where
-  last_of : (m : ℕ) (d d' : Damping) (e : Entry) (t : State) → going_of d e ≡ On d' → EndsBy m (run_with repair_of s l m d' t)
+  last_of : (m : ℕ) (d d' : Damping) (e : Entry) (t : State) → going_of d e ≡ Continue d' → EndsBy m (run_with repair_of s l m d' t)
       → (run_with repair_of s l m d' t).ended ≡ end_by (get_or (e ∷ (run_with repair_of s l m d' t).entries) (length (e ∷ (run_with repair_of s l m d' t).entries) - 1) no_entry)
   unfolding run_with
   last_of zero d d' e t g w = sym (last_one e ∙ going_end d d' e g)
@@ -249,7 +246,7 @@ module _ (s : List ℕ) (l : Layout) where
   ends_by (suc m) p = go (trial_at s l p) (going_of p.damping (trial_at s l p).entry) refl (ends_by m)
     where
       go : (o : Outcome) (g : Going) → going_of p.damping o.entry ≡ g → ((p : Point) → EndsBy m (run_at s l m p)) → EndsBy (suc m) (then_run o.entry o.state g (run_with repair_of s l m))
-      go o (On d') e ih =
+      go o (Continue d') e ih =
           let w = ih (point d' o.state) in
           record {
             some = λ h. omega arith;
@@ -262,12 +259,12 @@ module _ (s : List ℕ) (l : Layout) where
               → end_by (get_or (o.entry ∷ (run_with repair_of s l m d' o.state).entries) i no_entry) ≡ Limit
           onward w zero h = going_end p.damping d' o.entry e
           onward w (suc i) h = w.on i (omega arith)
-      go o (Over z) e ih =
+      go o (Break z) e ih =
           record {
             some = λ h. omega arith;
             last = λ h. sym (last_one o.entry ∙ over_end p.damping z o.entry e);
             on = λ i h. absurd (let y : ⊥ = omega arith in y);
-            limit = λ h. absurd (over_limit p.damping o.entry (e ∙ ap Over h));
+            limit = λ h. absurd (over_limit p.damping o.entry (e ∙ ap Break h));
           }
 
 -- Of the solve of any sheet: the number and the place, which are those of its end, are told by its last entry.
@@ -283,7 +280,7 @@ options_some b s h =
     let g = leb (pair_at s 26) b.trials in
     leb-true 1 (pair_at s 26) (and_right e f (and_left (e && f) g (and_left (e && f && g) (leb (byte_at s 28) b.unit) h)))
 
-some_trials : (s : List ℕ) (l : Layout) → read_of s ≡ Good l → 1 ≤ trials_of s
+some_trials : (s : List ℕ) (l : Layout) → read_of s ≡ Ok l → 1 ≤ trials_of s
 unfolding read_of options_of
 some_trials s l h = options_some base_bounds s (accepts base_bounds s l h).options
 

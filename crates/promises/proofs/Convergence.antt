@@ -19,9 +19,6 @@ use Rattle.layout.specs.declared.places.Layout.{Layout}
 use Rattle.links.specs.Links.{link_of}
 use Rattle.nodes.specs.Nodes.{enabled, in_service}
 use Rattle.codes.specs.Codes.{status_of}
-use Rattle.status.specs.declared.Change.TheVariants.{Stays}
-use Rattle.found.specs.declared.Found.{Found}
-use Rattle.found.specs.declared.Found.TheVariants.{At, Nothing}
 use Rattle.wild.specs.Wild.{wild_place}
 use Rattle.damping.specs.Damping.{converged_of, relative_change, flow_limit}
 use Rattle.damping.specs.Units.{factor_of}
@@ -33,7 +30,6 @@ use Rattle.drawn.specs.Drawn.{Draws, draws, bent, node_drawn, nodes_drawn, drawn
 use Rattle.substitution.specs.Substitution.{solved}
 use Rattle.update.specs.Update.{still, noted, counts, Stepping, stepping, Basis, basis, flow_change, change_at, link_set, link_moved, link_update, link_updates, update_of}
 use Rattle.update.specs.declared.Stats.{Stats}
-use Rattle.causes.specs.declared.Flip.{Flip}
 use Rattle.entries.specs.declared.Entry.TheVariants.{Stepped, Converged}
 use Rattle.trial.specs.Trial.{judged, step_entry, step_of, system_of, factors_of, trial_of}
 use Rattle.promises.specs.Repairs.{stop_of, fails}
@@ -48,6 +44,8 @@ use Rattle.promises.proofs.Repairs.{each_way, stop_fails}
 use Rattle.promises.proofs.Flips.{Same, later}
 use Rattle.promises.proofs.Wilds.{none_is_wild}
 use Rattle.promises.proofs.Causes.{last_is, last_leaves, zero_converged}
+use Rattle.std.specs.Prelude.{None, Option, Some}
+use Rattle.causes.specs.Causes.{Flip}
 
 -- ---- the test of convergence
 
@@ -75,20 +73,20 @@ judged_converges o d m flip flip' = go (converged_of (relative_change m.moved m.
     go true p x e = converges_by o m p
     go false p x e = other (cc)
 
-entry_converges : (f : Found) (o : Options) (d : Damping) (m : Stats) (flip flip' : Flip) → step_entry f o d m flip ≡ Converged flip' → (f ≡ Nothing) × Converges o m
+entry_converges : (f : Option ℕ) (o : Options) (d : Damping) (m : Stats) (flip flip' : Flip) → step_entry f o d m flip ≡ Converged flip' → (f ≡ None) × Converges o m
 unfolding step_entry
-entry_converges (At p) o d m flip flip' e = other (cc)
-entry_converges Nothing o d m flip flip' e = (refl, judged_converges o d m flip flip' e)
+entry_converges (Some p) o d m flip flip' e = other (cc)
+entry_converges None o d m flip flip' e = (refl, judged_converges o d m flip flip' e)
 
 -- ---- a trial
 
 -- an OK entry is that of a step that converges and leaves nothing wild
 step_converges : (s : List ℕ) (l : Layout) (d : Damping) (t : State) (flip : Flip) → (trial_of s l d t).entry ≡ Converged flip
-    → (wild_place l (trial_of s l d t).state.heads (trial_of s l d t).state.flows (trial_of s l d t).state.drawn ≡ Nothing) × Converges (options_of s) (stats_of s l d t)
+    → (wild_place l (trial_of s l d t).state.heads (trial_of s l d t).state.flows (trial_of s l d t).state.drawn ≡ None) × Converges (options_of s) (stats_of s l d t)
 unfolding step_of stats_of basis_of
 step_converges s l d t flip =
     each_way s l d t
-    (λ o. o.entry ≡ Converged flip → (wild_place l o.state.heads o.state.flows o.state.drawn ≡ Nothing) × Converges (options_of s) (stats_of s l d t))
+    (λ o. o.entry ≡ Converged flip → (wild_place l o.state.heads o.state.flows o.state.drawn ≡ None) × Converges (options_of s) (stats_of s l d t))
     (λ j w e. other (cc)) (λ v w e. other (cc)) (λ v w e. other (cc))
     (λ e.
     let a = system_of s l t in
@@ -98,13 +96,13 @@ step_converges s l d t flip =
     entry_converges (wild_place l h u.flows f.drawn) (options_of s) d f.stats u.updated.flip flip e)
 
 -- and its matrix was factored
-trial_factored : (s : List ℕ) (l : Layout) (d : Damping) (t : State) (flip : Flip) → (trial_of s l d t).entry ≡ Converged flip → stop_of s l t ≡ Nothing
+trial_factored : (s : List ℕ) (l : Layout) (d : Damping) (t : State) (flip : Flip) → (trial_of s l d t).entry ≡ Converged flip → stop_of s l t ≡ None
 unfolding fails
 trial_factored s l d t flip e = go (stop_of s l t) refl
   where
-    go : (f : Found) → stop_of s l t ≡ f → stop_of s l t ≡ Nothing
-    go Nothing p = p
-    go (At v) p = never (sym (ap fails e) ∙ stop_fails s l d t v p)
+    go : (f : Option ℕ) → stop_of s l t ≡ f → stop_of s l t ≡ None
+    go None p = p
+    go (Some v) p = never (sym (ap fails e) ∙ stop_fails s l d t v p)
 
 -- ---- no status changed that counts
 
@@ -124,7 +122,7 @@ module _ (s : List ℕ) (l : Layout) (b : Basis) where
   counted_next j w w₀ e = go (enabled s l (link_of s l j).start && enabled s l (link_of s l j).end)
     where
       go : (on : Bool) → (cond on (link_moved s l b (link_of s l j) j w) (stepping (set w.flows j constant.zero) w.codes w.updated)).updated.stats.changed
-          ≡ (w.updated.stats.changed || counts (status_of (get_or w₀.codes j 0)) (cond on (change_at s l b.heads (link_of s l j) (get_or w₀.codes j 0) (minus (get_or w₀.flows j nan) (flow_change b (link_of s l j) j))) Stays))
+          ≡ (w.updated.stats.changed || counts (status_of (get_or w₀.codes j 0)) (cond on (change_at s l b.heads (link_of s l j) (get_or w₀.codes j 0) (minus (get_or w₀.flows j nan) (flow_change b (link_of s l j) j))) None))
       go true = rw (← e.flow, ← e.code)
       go false = sym (or_none w.updated.stats.changed)
 

@@ -11,8 +11,6 @@ use lib.Ieee.{Float}
 use Rattle.records.specs.Records.{options_of}
 use Rattle.records.specs.declared.records.Options.{Options}
 use Rattle.damping.specs.Damping.{converged_of, relative_change}
-use Rattle.found.specs.declared.Found.{Found}
-use Rattle.found.specs.declared.Found.TheVariants.{At, Nothing}
 use Rattle.layout.specs.declared.places.Layout.{Layout}
 use Rattle.wild.specs.Wild.{wild_place}
 use Rattle.wild.proofs.Wilds.{wild_below}
@@ -23,9 +21,7 @@ use Rattle.links.specs.declared.LinkIndex.{LinkIndex}
 use Rattle.nodes.specs.declared.NodeIndex.{NodeIndex}
 use Rattle.damping.specs.declared.steps.Damping.{Damping}
 use Rattle.entries.specs.declared.Entry.{Entry}
-use Rattle.causes.specs.declared.Flip.{Flip}
-use Rattle.causes.specs.declared.Flip.TheVariants as flip
-use Rattle.causes.specs.Causes.{flip_number}
+use Rattle.causes.specs.Causes.{flip_number, Flip}
 use Rattle.causes.proofs.Laws.{cause_small}
 use Rattle.entries.specs.declared.Entry.TheVariants.{Freed, Grounded, Singular, Wild, Stepped, Converged}
 use Rattle.trial.specs.Trial.{repair_of, judged, step_entry, step_of, trial_of}
@@ -51,6 +47,7 @@ use Rattle.promises.proofs.Repairs as repairs
 use Rattle.promises.proofs.EachEntry.{solve_each_entry}
 use Rattle.promises.proofs.Bound.{stop_node_lem}
 use Rattle.promises.proofs.Solves.{comes, ways, runs_enough, tells}
+use Rattle.std.specs.Prelude.{None, Option, Some}
 
 -- ---- an entry's four bytes
 
@@ -58,63 +55,63 @@ module _ (r : List ℕ) (i : ℕ) (m : Mark) where
   put_before : (p : ℕ) → p < 4 * i → get_or (put_of r i m) p 0 ≡ get_or r p 0
   unfolding put_of
   put_before p h =
-      let x = set r (4 * i) m.0 in
-      let y = set x (4 * i + 1) m.1 in
-      let z = set y (4 * i + 2) (m.2 % 256) in
-      get_or-set_other z (4 * i + 3) p (m.2 / 256 % 256) 0 (omega arith)
-      ∙ get_or-set_other y (4 * i + 2) p (m.2 % 256) 0 (omega arith)
-      ∙ get_or-set_other x (4 * i + 1) p m.1 0 (omega arith)
-      ∙ get_or-set_other r (4 * i) p m.0 0 (omega arith)
+      let x = set r (4 * i) m.first in
+      let y = set x (4 * i + 1) m.second in
+      let z = set y (4 * i + 2) (m.number % 256) in
+      get_or-set_other z (4 * i + 3) p (m.number / 256 % 256) 0 (omega arith)
+      ∙ get_or-set_other y (4 * i + 2) p (m.number % 256) 0 (omega arith)
+      ∙ get_or-set_other x (4 * i + 1) p m.second 0 (omega arith)
+      ∙ get_or-set_other r (4 * i) p m.first 0 (omega arith)
 
   put_past : (p : ℕ) → 4 * i + 4 ≤ p → get_or (put_of r i m) p 0 ≡ get_or r p 0
   unfolding put_of
   put_past p h =
-      let x = set r (4 * i) m.0 in
-      let y = set x (4 * i + 1) m.1 in
-      let z = set y (4 * i + 2) (m.2 % 256) in
-      get_or-set_other z (4 * i + 3) p (m.2 / 256 % 256) 0 (omega arith)
-      ∙ get_or-set_other y (4 * i + 2) p (m.2 % 256) 0 (omega arith)
-      ∙ get_or-set_other x (4 * i + 1) p m.1 0 (omega arith)
-      ∙ get_or-set_other r (4 * i) p m.0 0 (omega arith)
+      let x = set r (4 * i) m.first in
+      let y = set x (4 * i + 1) m.second in
+      let z = set y (4 * i + 2) (m.number % 256) in
+      get_or-set_other z (4 * i + 3) p (m.number / 256 % 256) 0 (omega arith)
+      ∙ get_or-set_other y (4 * i + 2) p (m.number % 256) 0 (omega arith)
+      ∙ get_or-set_other x (4 * i + 1) p m.second 0 (omega arith)
+      ∙ get_or-set_other r (4 * i) p m.first 0 (omega arith)
 
   module _ (long : 4 * i + 4 ≤ length r) where
-    put_first : get_or (put_of r i m) (4 * i) 0 ≡ m.0
+    put_first : get_or (put_of r i m) (4 * i) 0 ≡ m.first
     unfolding put_of
     put_first =
-        let x = set r (4 * i) m.0 in
-        let y = set x (4 * i + 1) m.1 in
-        let z = set y (4 * i + 2) (m.2 % 256) in
-        get_or-set_other z (4 * i + 3) (4 * i) (m.2 / 256 % 256) 0 (omega arith)
-        ∙ get_or-set_other y (4 * i + 2) (4 * i) (m.2 % 256) 0 (omega arith)
-        ∙ get_or-set_other x (4 * i + 1) (4 * i) m.1 0 (omega arith)
-        ∙ get_or-set_same r (4 * i) m.0 0 (omega arith)
+        let x = set r (4 * i) m.first in
+        let y = set x (4 * i + 1) m.second in
+        let z = set y (4 * i + 2) (m.number % 256) in
+        get_or-set_other z (4 * i + 3) (4 * i) (m.number / 256 % 256) 0 (omega arith)
+        ∙ get_or-set_other y (4 * i + 2) (4 * i) (m.number % 256) 0 (omega arith)
+        ∙ get_or-set_other x (4 * i + 1) (4 * i) m.second 0 (omega arith)
+        ∙ get_or-set_same r (4 * i) m.first 0 (omega arith)
 
-    put_second : get_or (put_of r i m) (4 * i + 1) 0 ≡ m.1
+    put_second : get_or (put_of r i m) (4 * i + 1) 0 ≡ m.second
     unfolding put_of
     put_second =
-        let x = set r (4 * i) m.0 in
-        let y = set x (4 * i + 1) m.1 in
-        let z = set y (4 * i + 2) (m.2 % 256) in
-        get_or-set_other z (4 * i + 3) (4 * i + 1) (m.2 / 256 % 256) 0 (omega arith)
-        ∙ get_or-set_other y (4 * i + 2) (4 * i + 1) (m.2 % 256) 0 (omega arith)
-        ∙ get_or-set_same x (4 * i + 1) m.1 0 (omega (arith, length-set r (4 * i) m.0))
+        let x = set r (4 * i) m.first in
+        let y = set x (4 * i + 1) m.second in
+        let z = set y (4 * i + 2) (m.number % 256) in
+        get_or-set_other z (4 * i + 3) (4 * i + 1) (m.number / 256 % 256) 0 (omega arith)
+        ∙ get_or-set_other y (4 * i + 2) (4 * i + 1) (m.number % 256) 0 (omega arith)
+        ∙ get_or-set_same x (4 * i + 1) m.second 0 (omega (arith, length-set r (4 * i) m.first))
 
-    put_low : get_or (put_of r i m) (4 * i + 2) 0 ≡ m.2 % 256
+    put_low : get_or (put_of r i m) (4 * i + 2) 0 ≡ m.number % 256
     unfolding put_of
     put_low =
-        let x = set r (4 * i) m.0 in
-        let y = set x (4 * i + 1) m.1 in
-        let z = set y (4 * i + 2) (m.2 % 256) in
-        get_or-set_other z (4 * i + 3) (4 * i + 2) (m.2 / 256 % 256) 0 (omega arith)
-        ∙ get_or-set_same y (4 * i + 2) (m.2 % 256) 0 (omega (arith, length-set r (4 * i) m.0, length-set x (4 * i + 1) m.1))
+        let x = set r (4 * i) m.first in
+        let y = set x (4 * i + 1) m.second in
+        let z = set y (4 * i + 2) (m.number % 256) in
+        get_or-set_other z (4 * i + 3) (4 * i + 2) (m.number / 256 % 256) 0 (omega arith)
+        ∙ get_or-set_same y (4 * i + 2) (m.number % 256) 0 (omega (arith, length-set r (4 * i) m.first, length-set x (4 * i + 1) m.second))
 
-    put-high : get_or (put_of r i m) (4 * i + 3) 0 ≡ m.2 / 256 % 256
+    put-high : get_or (put_of r i m) (4 * i + 3) 0 ≡ m.number / 256 % 256
     unfolding put_of
     put-high =
-        let x = set r (4 * i) m.0 in
-        let y = set x (4 * i + 1) m.1 in
-        let z = set y (4 * i + 2) (m.2 % 256) in
-        get_or-set_same z (4 * i + 3) (m.2 / 256 % 256) 0 (omega (arith, length-set r (4 * i) m.0, length-set x (4 * i + 1) m.1, length-set y (4 * i + 2) (m.2 % 256)))
+        let x = set r (4 * i) m.first in
+        let y = set x (4 * i + 1) m.second in
+        let z = set y (4 * i + 2) (m.number % 256) in
+        get_or-set_same z (4 * i + 3) (m.number / 256 % 256) 0 (omega (arith, length-set r (4 * i) m.first, length-set x (4 * i + 1) m.second, length-set y (4 * i + 2) (m.number % 256)))
 
 -- later entries leave earlier bytes, and none reaches past the last
 written_before : (es : List Entry) (i : ℕ) (r : List ℕ) (p : ℕ) → p < 4 * i → get_or (written i es r) p 0 ≡ get_or r p 0
@@ -148,7 +145,7 @@ written_shows (e ∷ es) i r h (suc j) x =
 -- ---- counting
 
 unfoldable pub has : ℕ → ℕ → Entry → Bool
-has a b e = eqb (mark_of e).0 a && eqb (mark_of e).1 b
+has a b e = eqb (mark_of e).first a && eqb (mark_of e).second b
 
 unfoldable having : ℕ → ℕ → List Entry → ℕ
 having a b [] = 0
@@ -289,31 +286,31 @@ gn_grounded s x l w i h e = gn (get_or (run_in s l).entries i no_entry) (sym (sh
 
 told_small : (flip : Flip) → flip_number flip < 1280
 unfolding flip_number
-told_small flip.Nothing = omega arith
-told_small (flip.Link i c) = omega (arith, cause_small c)
+told_small None = omega arith
+told_small (Some (i, c)) = omega (arith, cause_small c)
 
-judged_small : (o : Options) (d : Damping) (m : Stats) (flip : Flip) → (mark_of (judged o d m flip)).2 < 1280
+judged_small : (o : Options) (d : Damping) (m : Stats) (flip : Flip) → (mark_of (judged o d m flip)).number < 1280
 unfolding judged mark_of
 judged_small o d m flip = go (converged_of (relative_change m.moved m.total o.accuracy) o.accuracy m.changed m.largest o.unit o.change) _
   where
-    go : (b : Bool) (x : Damping) → (mark_of (cond b (Converged flip) (Stepped x flip))).2 < 1280
+    go : (b : Bool) (x : Damping) → (mark_of (cond b (Converged flip) (Stepped x flip))).number < 1280
     go true x = told_small flip
     go false x = told_small flip
 
-entry_small : (f : Found) (o : Options) (d : Damping) (m : Stats) (flip : Flip) → ((p : ℕ) → f ≡ At p → p < 320) → (mark_of (step_entry f o d m flip)).2 < 1280
+entry_small : (f : Option ℕ) (o : Options) (d : Damping) (m : Stats) (flip : Flip) → ((p : ℕ) → f ≡ Some p → p < 320) → (mark_of (step_entry f o d m flip)).number < 1280
 unfolding step_entry mark_of
-entry_small (At p) o d m flip h = omega (arith, h p refl)
-entry_small Nothing o d m flip h = judged_small o d m flip
+entry_small (Some p) o d m flip h = omega (arith, h p refl)
+entry_small None o d m flip h = judged_small o d m flip
 
 module _ (s : List ℕ) (l : Layout) (d : Damping) (t : State) (net : Network l s) where
-  step_small : (g y x : List Float) → (mark_of (step_of s l d t g y x).entry).2 < 1280
+  step_small : (g y x : List Float) → (mark_of (step_of s l d t g y x).entry).number < 1280
   step_small g y x =
-      repairs.step_entry_lem s l d t g y x (λ e. (mark_of e).2 < 1280) (λ h q f m flip. entry_small (wild_place l h q f) (options_of s) d m flip (λ p e. wild_below l h q f p net.nodes net.links e))
+      repairs.step_entry_lem s l d t g y x (λ e. (mark_of e).number < 1280) (λ h q f m flip. entry_small (wild_place l h q f) (options_of s) d m flip (λ p e. wild_below l h q f p net.nodes net.links e))
 
-  trial_small : (mark_of (trial_of s l d t).entry).2 < 1280
+  trial_small : (mark_of (trial_of s l d t).entry).number < 1280
   unfolding mark_of
   trial_small =
-      repairs.ways s l d t (λ o. (mark_of o.entry).2 < 1280)
+      repairs.ways s l d t (λ o. (mark_of o.entry).number < 1280)
       (λ j w. omega (arith, w.lowest.one, net.links)) (λ v w. omega (arith, (stop_node_lem s l net.unknowns t v w.stops).0, net.nodes))
       (λ v w. omega (arith, (stop_node_lem s l net.unknowns t v w.stops).0, net.nodes)) step_small
 
@@ -324,5 +321,5 @@ number_shown s x l w i h =
     let c = network_of s l w.read in
     let p = point_in s l i in
     let small = trial_small s l p.damping p.state c in
-    let same = ap (λ (e : Entry). (mark_of e).2) (solve_each_entry s l i h) in
+    let same = ap (λ (e : Entry). (mark_of e).number) (solve_each_entry s l i h) in
     omega (arith, y.low, y.high, small, same)

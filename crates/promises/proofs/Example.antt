@@ -40,10 +40,7 @@ use Rattle.runs.specs.Run.{then_run}
 use Rattle.fields.specs.Fields.{base_bounds, within, all_within, options_good, node_good, link_codes, link_numbers, link_good}
 use Rattle.float.specs.Sign.{abs_of}
 use Rattle.sheet.specs.Scan.{readable, records_from, has_options, nodes_of, links_of, layout_of, end_of}
-use Rattle.sheet.specs.Read.{first_bad, bad_ends, bad_link, bad_node, bad_field, with_unknowns, checked, after_scan, read_with, read_of}
-use Rattle.found.specs.declared.Found.TheVariants.{Nothing}
-use Rattle.sheet.specs.declared.reading.Reading.{Reading}
-use Rattle.sheet.specs.declared.reading.Reading.TheVariants.{Good}
+use Rattle.sheet.specs.Read.{first_bad, bad_ends, bad_link, bad_node, bad_field, with_unknowns, checked, after_scan, read_with, read_of, Reading}
 use Rattle.layout.specs.declared.places.Layout.{Layout}
 use lib.ListN.{length}
 use Rattle.columns.specs.Columns.{copied}
@@ -62,12 +59,13 @@ use Rattle.results.specs.Lines.{node_line, node_lines, link_line, link_lines, ba
 use Rattle.listing_text.specs.Listing.{head_lines, result_lines, results_for, lines_of, blank, listing_of}
 use Rattle.promises.specs.Example.{sheet, listing, freed_sheet, freed_listing}
 use Rattle.promises.proofs.Quick.{quick_system, quick_trial, quick_run, quick_solve, quick_solve_lem}
+use Rattle.std.specs.Prelude.{None, Ok}
 
-reads : read_of sheet ≡ Good (plain 2 0 1)
+reads : read_of sheet ≡ Ok (plain 2 0 1)
 unfolding sheet read_of read_with after_scan with_unknowns serving in_service checked bad_field bad_node bad_link bad_ends first_bad options_good node_good link_good link_codes link_numbers all_within within base_bounds pair_at from_bytes little_endian abs_of readable records_from has_options nodes_of links_of layout_of end_of link_place lt le eq of_bits of_fields odd count_trailing_zeros
 reads = refl
 
-enough : too_short (plain 2 0 1) (trials_of sheet) (length blank.heads) (length blank.demands) (length blank.flows) (length blank.statuses) (length blank.entries) (length blank.scratch) ≡ Nothing
+enough : too_short (plain 2 0 1) (trials_of sheet) (length blank.heads) (length blank.demands) (length blank.flows) (length blank.statuses) (length blank.entries) (length blank.scratch) ≡ None
 unfolding sheet too_short options_of pair_at little_endian blank zeros
 enough = refl
 
@@ -75,7 +73,7 @@ enough = refl
 unfoldable lines : Reading → Solved → List ℕ
 lines r o = lines_of r o.answer o.lent.heads o.lent.demands o.lent.flows o.lent.statuses o.lent.entries
 
-computed : lines (Good (plain 2 0 1)) (quick_solve repair_of sheet (plain 2 0 1) blank) ≡ listing
+computed : lines (Ok (plain 2 0 1)) (quick_solve repair_of sheet (plain 2 0 1) blank) ≡ listing
 unfolding lines lines_of head_lines results_for result_lines blank listing quick_solve told delivered copied balance_of demand_of supply_of settled_of finish tallied entry.counted written put_of mark_of answer_line record_lines record_line node_lines node_line link_lines balance_line number_word float_word decimal_of decimal_in hex_of hex_in hex_digit sheet start_of heads_from demands_from flows_from codes_from node_at from_bytes little_endian quick_run quick_trial quick_system excess_of present cleared with_links demands_taken right_of bent_matrix bent_right counting grounded_of ground_of row_at serving in_service node_of link_of link_start link_end link_status link_place off_row take_from on_diagonal add_to zeros factor_of factorization.columns reduced less divided fill root_of root_bits scaled exponent moved whole_root whole_root_in factored repair_of repair_at free regulator_at regulator_from ground_node node_numbered step_of solved_heads with_head solved substitution.before substitution.forward substitution.after substitution.back update_of link_updates tank_links_of tank_updates tank_at drawn_of wild_place wild_drawn first_wild wild_from wild_of step_entry judged relative_change converged_of flow_limit unit.factor_of unit.factors options_of pair_at damped_of damping_start going_of then_run lt le eq neg add sub sum mul div round units odd size span climb of_bits of_fields to_bits is_nan count_trailing_zeros count_leading_zeros
 computed = refl
 
@@ -84,19 +82,19 @@ pub document_01 : listing_of sheet ≡ listing
 unfolding listing_of lines
 document_01 =
     let l : Layout = plain 2 0 1 in
-    ap (λ (r : Reading). lines r (solve_of sheet blank)) reads ∙ ap (lines (Good l)) (quick_solve_lem repair_of sheet l blank reads enough) ∙ computed
+    ap (λ (r : Reading). lines r (solve_of sheet blank)) reads ∙ ap (lines (Ok l)) (quick_solve_lem repair_of sheet l blank reads enough) ∙ computed
 
 -- ---- the other one
 
-freed_reads : read_of freed_sheet ≡ Good (plain 2 1 1)
+freed_reads : read_of freed_sheet ≡ Ok (plain 2 1 1)
 unfolding freed_sheet read_of read_with after_scan with_unknowns serving in_service checked bad_field bad_node bad_link bad_ends first_bad options_good node_good link_good link_codes link_numbers all_within within base_bounds pair_at from_bytes little_endian abs_of readable records_from has_options nodes_of links_of layout_of end_of link_place lt le eq of_bits of_fields odd count_trailing_zeros ends_good
 freed_reads = refl
 
-freed_enough : too_short (plain 2 1 1) (trials_of freed_sheet) (length blank.heads) (length blank.demands) (length blank.flows) (length blank.statuses) (length blank.entries) (length blank.scratch) ≡ Nothing
+freed_enough : too_short (plain 2 1 1) (trials_of freed_sheet) (length blank.heads) (length blank.demands) (length blank.flows) (length blank.statuses) (length blank.entries) (length blank.scratch) ≡ None
 unfolding freed_sheet too_short options_of pair_at little_endian blank zeros
 freed_enough = refl
 
-freed_computed : lines (Good (plain 2 1 1)) (quick_solve repair_of freed_sheet (plain 2 1 1) blank) ≡ freed_listing
+freed_computed : lines (Ok (plain 2 1 1)) (quick_solve repair_of freed_sheet (plain 2 1 1) blank) ≡ freed_listing
 unfolding lines lines_of head_lines results_for result_lines blank freed_listing quick_solve told delivered copied balance_of demand_of supply_of settled_of finish tallied entry.counted written put_of mark_of answer_line record_lines record_line node_lines node_line link_lines balance_line number_word float_word decimal_of decimal_in hex_of hex_in hex_digit freed_sheet start_of heads_from demands_from flows_from codes_from node_at from_bytes little_endian quick_run quick_trial quick_system excess_of imbalance_of present cleared with_links demands_taken right_of bent_matrix bent_right counting grounded_of ground_of row_at serving in_service node_of link_of link_start link_end link_status link_place off_row take_from on_diagonal add_to zeros factor_of factorization.columns reduced less divided fill root_of root_bits scaled exponent moved whole_root whole_root_in factored repair_of repair_at free regulator_at regulator_from ground_node node_numbered step_of solved_heads with_head solved substitution.before substitution.forward substitution.after substitution.back update_of link_updates tank_links_of tank_updates tank_at drawn_of wild_place wild_drawn first_wild wild_from wild_of step_entry judged relative_change converged_of flow_limit unit.factor_of unit.factors options_of pair_at damped_of damping_start going_of then_run lt le eq neg add sub sum mul div round units odd size span climb of_bits of_fields to_bits is_nan count_trailing_zeros count_leading_zeros link_added enabled less_demands with_flows Excess.shifted regulator regulates_at touches link_at link_update link_line supplied_by fixed_node status_of link_kind_of
 freed_computed = refl
 
@@ -105,4 +103,4 @@ pub freed : listing_of freed_sheet ≡ freed_listing
 unfolding listing_of lines
 freed =
     let l : Layout = plain 2 1 1 in
-    ap (λ (r : Reading). lines r (solve_of freed_sheet blank)) freed_reads ∙ ap (lines (Good l)) (quick_solve_lem repair_of freed_sheet l blank freed_reads freed_enough) ∙ freed_computed
+    ap (λ (r : Reading). lines r (solve_of freed_sheet blank)) freed_reads ∙ ap (lines (Ok l)) (quick_solve_lem repair_of freed_sheet l blank freed_reads freed_enough) ∙ freed_computed

@@ -12,11 +12,11 @@ use Rattle.layout.specs.Places.{node_place}
 use Rattle.records.specs.Records.{byte_at, node_at}
 use Rattle.fields.specs.Fields.{base_bounds, all_within, node_good}
 use Rattle.sheet.specs.Read.{read_of}
-use Rattle.sheet.specs.declared.reading.Reading.TheVariants.{Good}
 use Rattle.layout.specs.declared.places.Layout.{Layout}
 use Rattle.sheet.proofs.Laws.{and_left, and_right}
 use Rattle.accepted.proofs.Accepts.{accepts}
 use Rattle.nodes.specs.Nodes.{enabled, node_of}
+use Rattle.std.specs.Prelude.{Ok}
 
 flag : (s : List ℕ) (at : ℕ) → node_good base_bounds s at ≡ true → byte_at s (at + 3) ≤ 1
 unfolding node_good
@@ -33,6 +33,6 @@ opposite x h =
     (λ (v : x < 1). rw (ne_eqb x 1 (λ z. omega (arith, v, z)), eq-eqb x 0 (omega (arith, v))))
     (eq-or-lt_of_le h)
 
-pub in_use : (s : List ℕ) (l : Layout) → read_of s ≡ Good l → (i : ℕ) → i < l.nodes → enabled s l i ≡ not (node_of s l i).disabled
+pub in_use : (s : List ℕ) (l : Layout) → read_of s ≡ Ok l → (i : ℕ) → i < l.nodes → enabled s l i ≡ not (node_of s l i).disabled
 unfolding read_of enabled node_of node_at
 in_use s l h i v = opposite (byte_at s (node_place l i + 3)) (flag s (node_place l i) ((accepts base_bounds s l h).each_node i v))

@@ -10,8 +10,6 @@ use lib.ListN.{length, get_or, set}
 use lib.Seq.{get_or-set_other}
 use lib.Ieee.{Float, nan, lt, le, neg}
 use Rattle.layout.specs.declared.places.Layout.{Layout}
-use Rattle.found.specs.declared.Found.{Found}
-use Rattle.found.specs.declared.Found.TheVariants as found
 use Rattle.links.specs.Links.{link_of}
 use Rattle.links.specs.declared.LinkIndex.{LinkIndex}
 use Rattle.nodes.specs.Nodes.{enabled}
@@ -25,14 +23,10 @@ use Rattle.codes.specs.declared.LinkKind.TheVariants.{Pipe, Prv, Psv, Pbv, Fcv, 
 use Rattle.constants.specs.Arithmetic.{plus, minus}
 use Rattle.constants.specs.Constants.{q_tol, h_tol}
 use Rattle.constants.specs.Constants as constant
-use Rattle.causes.specs.Causes.{cause_code, first_flip, flip_number}
+use Rattle.causes.specs.Causes.{cause_code, first_flip, flip_number, Flip}
 use Rattle.causes.specs.declared.Cause.{Cause}
 use Rattle.causes.specs.declared.Cause.TheVariants as cause
-use Rattle.causes.specs.declared.Flip.{Flip}
-use Rattle.causes.specs.declared.Flip.TheVariants.{Nothing, Link}
-use Rattle.status.specs.Rules.{becomes_if, closed_if_negative, pipe_status, prv_status, psv_status, updated_of}
-use Rattle.status.specs.declared.Change.{Change}
-use Rattle.status.specs.declared.Change.TheVariants.{Stays, Becomes}
+use Rattle.status.specs.Rules.{becomes_if, closed_if_negative, pipe_status, prv_status, psv_status, updated_of, Change}
 use Rattle.damping.specs.declared.steps.Damping.{Damping}
 use Rattle.damping.specs.Damping.{relative_change, converged_of}
 use Rattle.state.specs.State.{State, solved_heads}
@@ -57,13 +51,27 @@ use Rattle.promises.proofs.Never.{other, never}
 use Rattle.promises.proofs.EachEntry.{solve_each_entry}
 use Rattle.promises.proofs.Counts.{entry_shown, number_shown}
 use Rattle.promises.proofs.Repairs as repairs
+use Rattle.std.specs.Prelude.{None, Option, Some}
+
+-- ---- two changes, or two flips, that are the same
+
+abbrev first_or : {A B : Type 0} → A → Option (A × B) → A
+first_or d None = d
+first_or d (Some p) = p.0
+
+abbrev second_or : {A B : Type 0} → B → Option (A × B) → B
+second_or d None = d
+second_or d (Some p) = p.1
+
+pair_in : {A B : Type 0} (a a' : A) (b b' : B) → ◌≡◌ {A = Option (A × B)} (Some (a, b)) (Some (a', b')) → (a ≡ a') × (b ≡ b')
+pair_in a a' b b' e = (ap (first_or a) e, ap (second_or b) e)
 
 -- ---- a link's update leaves the others as they were
 
 recoded_other : (c : List ℕ) (i j : ℕ) (change : Change) → (j ≡ i → ⊥) → get_or (recoded c i change) j 0 ≡ get_or c j 0
 unfolding recoded
-recoded_other c i j Stays n = refl
-recoded_other c i j (Becomes new cause) n = get_or-set_other c i j (status_code new) 0 n
+recoded_other c i j None n = refl
+recoded_other c i j (Some (new, cause)) n = get_or-set_other c i j (status_code new) 0 n
 
 -- two states of the columns agree at link j
 pub record Same (w w₀ : Stepping) (j : ℕ) : Type 0 where
@@ -97,14 +105,14 @@ module _ (s : List ℕ) (l : Layout) (b : Basis) where
   told_next j w w₀ e = go (enabled s l (link_of s l j).start && enabled s l (link_of s l j).end)
     where
       go : (on : Bool) → (cond on (link_moved s l b (link_of s l j) j w) (stepping (set w.flows j constant.zero) w.codes w.updated)).updated.flip
-          ≡ telling w.updated.flip j (cond on (change_at s l b.heads (link_of s l j) (get_or w₀.codes j 0) (minus (get_or w₀.flows j nan) (flow_change b (link_of s l j) j))) Stays)
+          ≡ telling w.updated.flip j (cond on (change_at s l b.heads (link_of s l j) (get_or w₀.codes j 0) (minus (get_or w₀.flows j nan) (flow_change b (link_of s l j) j))) None)
       go true = rw (← e.flow, ← e.code)
       go false = refl
 
 -- ---- the first that changes is the one that is told
 
 -- what holds below n and at n holds below the next
-up_to : (n : ℕ) (f : ℕ → Change) → ((j : ℕ) → j < n → f j ≡ Stays) → f n ≡ Stays → (j : ℕ) → j < suc n → f j ≡ Stays
+up_to : (n : ℕ) (f : ℕ → Change) → ((j : ℕ) → j < n → f j ≡ None) → f n ≡ None → (j : ℕ) → j < suc n → f j ≡ None
 up_to n f below at j h = ⊎_elim (λ (e : j ≡ n). ap f e ∙ at) (λ (k : j < n). below j k) (eq-or-lt_of_le (omega (arith, h)))
 
 tells_next : (n : ℕ) (f : ℕ → Change) (flip : Flip) → Tells n f flip → Tells (suc n) f (telling flip n (f n))
@@ -112,17 +120,18 @@ unfolding telling first_flip
 tells_next n f flip h = go flip (f n) refl h
   where
     go : (flip : Flip) (x : Change) → f n ≡ x → Tells n f flip → Tells (suc n) f (telling flip n x)
-    go Nothing Stays e h = record { nothing = λ z. up_to n f (h.nothing refl) e; link = λ i c z. other (cc) }
-    go Nothing (Becomes new cause) e h =
+    go None None e h = record { nothing = λ z. up_to n f (h.nothing refl) e; link = λ i c z. other (cc) }
+    go None (Some (new, cause)) e h =
         record {
           nothing = λ z. other (cc);
           link = λ i c z.
-              let at : i.0 ≡ n = cc in
-              let by : c ≡ cause = cc in
+              let same = pair_in _ _ _ _ z in
+              let at : i.0 ≡ n = ap (λ (x : LinkIndex). x.0) (sym same.0) in
+              let by : c ≡ cause = sym same.1 in
               (omega (arith, at), ((new, rw (at, by) e), λ j k. h.nothing refl j (omega (arith, k, at))));
         }
-    go (Link i c) Stays e h = record { nothing = λ z. other (cc); link = λ i' c' z. let r = h.link i' c' z in (omega (arith, r.0), r.1) }
-    go (Link i c) (Becomes new cause) e h = record { nothing = λ z. other (cc); link = λ i' c' z. let r = h.link i' c' z in (omega (arith, r.0), r.1) }
+    go (Some (i, c)) None e h = record { nothing = λ z. other (cc); link = λ i' c' z. let r = h.link i' c' z in (omega (arith, r.0), r.1) }
+    go (Some (i, c)) (Some (new, cause)) e h = record { nothing = λ z. other (cc); link = λ i' c' z. let r = h.link i' c' z in (omega (arith, r.0), r.1) }
 
 module _ (s : List ℕ) (l : Layout) (b : Basis) (q : List Float) (c : List ℕ) where
   updates_tell : (n : ℕ) → Tells n (change_of s l b q c) (link_updates s l b n (stepping q c still)).updated.flip
@@ -147,10 +156,10 @@ judged_tells o d m flip flip' = go (converged_of (relative_change m.moved m.tota
     go true x = ⊎_elim (λ (e : Converged flip ≡ Converged flip'). cc) (λ w. other (cc))
     go false x = ⊎_elim (λ (e : Stepped x flip ≡ Converged flip'). other (cc)) (λ w. let e = w.1 in cc)
 
-entry_tells : (f : Found) (o : Options) (d : Damping) (m : Stats) (flip flip' : Flip) → Steps (step_entry f o d m flip) flip' → flip ≡ flip'
+entry_tells : (f : Option ℕ) (o : Options) (d : Damping) (m : Stats) (flip flip' : Flip) → Steps (step_entry f o d m flip) flip' → flip ≡ flip'
 unfolding step_entry
-entry_tells (found.At p) o d m flip flip' = ⊎_elim (λ e. other (cc)) (λ w. let e = w.1 in other (cc))
-entry_tells found.Nothing o d m flip flip' = judged_tells o d m flip flip'
+entry_tells (Some p) o d m flip flip' = ⊎_elim (λ e. other (cc)) (λ w. let e = w.1 in other (cc))
+entry_tells None o d m flip flip' = judged_tells o d m flip flip'
 
 module _ (s : List ℕ) (l : Layout) (d : Damping) (t : State) (flip : Flip) where
   step_tells : (g y x : List Float) → Steps (step_of s l d t g y x).entry flip → Tells l.links (change_of s l (basis (solved_heads s l x l.nodes t.heads) g y d.factor) t.flows t.statuses) flip
@@ -174,24 +183,25 @@ module _ (s : List ℕ) (l : Layout) (d : Damping) (t : State) (flip : Flip) whe
 
 -- ---- the bytes
 
-number_of_steps : (e : Entry) (flip : Flip) → Steps e flip → (mark_of e).2 ≡ flip_number flip
+number_of_steps : (e : Entry) (flip : Flip) → Steps e flip → (mark_of e).number ≡ flip_number flip
 unfolding mark_of
-number_of_steps e flip = ⊎_elim (λ (h : e ≡ Converged flip). ap (λ (y : Entry). (mark_of y).2) h) (λ w. ap (λ (y : Entry). (mark_of y).2) w.1)
+number_of_steps e flip = ⊎_elim (λ (h : e ≡ Converged flip). ap (λ (y : Entry). (mark_of y).number) h) (λ w. ap (λ (y : Entry). (mark_of y).number) w.1)
 
 low_byte : (s : List ℕ) (x : Lent) (l : Layout) (w : Runs s x l) (i : ℕ) → i < length (run_in s l).entries → get_or (solve_of s x).lent.entries (4 * i + 2) 0 < 256
 low_byte s x l w i h = omega (arith, (entry_shown s x l w i h).low)
 
 -- the low byte is the link's number plus 1, or 0; the high one is the cause
-bytes_tell : (flip : Flip) (n low high : ℕ) → n ≤ 128 → low + 256 * high ≡ flip_number flip → low < 256 → ((i : LinkIndex) (c : Cause) → flip ≡ Link i c → i.0 < n) → Bytes flip low high
+bytes_tell : (flip : Flip) (n low high : ℕ) → n ≤ 128 → low + 256 * high ≡ flip_number flip → low < 256 → ((i : LinkIndex) (c : Cause) → flip ≡ Some (i, c) → i.0 < n) → Bytes flip low high
 unfolding flip_number
-bytes_tell Nothing n low high m e b h = record { nothing = λ z. (omega arith, omega arith); link = λ i c z. other (cc) }
-bytes_tell (Link i c) n low high m e b h =
+bytes_tell None n low high m e b h = record { nothing = λ z. (omega arith, omega arith); link = λ i c z. other (cc) }
+bytes_tell (Some (i, c)) n low high m e b h =
     let small = h i c refl in
     record {
       nothing = λ z. other (cc);
       link = λ i' c' z.
-          let p : i.0 ≡ i'.0 = cc in
-          let r : cause_code c ≡ cause_code c' = cc in
+          let same = pair_in _ _ _ _ z in
+          let p : i.0 ≡ i'.0 = ap (λ (x : LinkIndex). x.0) same.0 in
+          let r : cause_code c ≡ cause_code c' = ap cause_code same.1 in
           (omega (arith, e, b, small, m, p), omega (arith, e, b, small, m, r));
     }
 
@@ -206,24 +216,24 @@ solve_tells s x l w i h flip e =
 
 -- ---- the cause
 
-negative_means : (q : Float) (x : Change) (P : Cause → Type 0) → (lt q (neg q_tol) ≡ true → P cause.ReverseFlow) → ((new : Status) (c : Cause) → x ≡ Becomes new c → P c)
-    → (new : Status) (c : Cause) → closed_if_negative q x ≡ Becomes new c → P c
+negative_means : (q : Float) (x : Change) (P : Cause → Type 0) → (lt q (neg q_tol) ≡ true → P cause.ReverseFlow) → ((new : Status) (c : Cause) → x ≡ Some (new, c) → P c)
+    → (new : Status) (c : Cause) → closed_if_negative q x ≡ Some (new, c) → P c
 unfolding closed_if_negative
 negative_means q x P back rest new c = go (lt q (neg q_tol)) refl
   where
-    go : (b : Bool) → lt q (neg q_tol) ≡ b → cond b (Becomes Closed cause.ReverseFlow) x ≡ Becomes new c → P c
-    go true t e = let p : cause.ReverseFlow ≡ c = cc in subst P p (back t)
+    go : (b : Bool) → lt q (neg q_tol) ≡ b → cond b (Some (Closed, cause.ReverseFlow)) x ≡ Some (new, c) → P c
+    go true t e = let p : cause.ReverseFlow ≡ c = (pair_in _ _ _ _ e).1 in subst P p (back t)
     go false t e = rest new c e
 
-if_means : (b : Bool) (status : Status) (by : Cause) (P : Cause → Type 0) → (b ≡ true → P by) → (new : Status) (c : Cause) → becomes_if b status by ≡ Becomes new c → P c
+if_means : (b : Bool) (status : Status) (by : Cause) (P : Cause → Type 0) → (b ≡ true → P by) → (new : Status) (c : Cause) → becomes_if b status by ≡ Some (new, c) → P c
 unfolding becomes_if
-if_means true status by P h new c e = let p : by ≡ c = cc in subst P p (h refl)
+if_means true status by P h new c e = let p : by ≡ c = (pair_in _ _ _ _ e).1 in subst P p (h refl)
 if_means false status by P h new c e = other (cc)
 
 -- a link that is shut: either test opens it
 shut_means : (b b' : Bool) (status status' : Status) (P : Cause → Type 0) → P cause.Reopened
-    → (new : Status) (c : Cause) → cond b (Becomes status cause.Reopened) (becomes_if b' status' cause.Reopened) ≡ Becomes new c → P c
-shut_means true b' status status' P h new c e = let p : cause.Reopened ≡ c = cc in subst P p h
+    → (new : Status) (c : Cause) → cond b (Some (status, cause.Reopened)) (becomes_if b' status' cause.Reopened) ≡ Some (new, c) → P c
+shut_means true b' status status' P h new c e = let p : cause.Reopened ≡ c = (pair_in _ _ _ _ e).1 in subst P p h
 shut_means false b' status status' P h new c e = if_means b' status' cause.Reopened P (λ t. h) new c e
 
 module _ (k : LinkKind) (old : Status) (setting q h₁ h₂ up down : Float) where
@@ -244,9 +254,9 @@ module _ (k : LinkKind) (old : Status) (setting q h₁ h₂ up down : Float) whe
 
 -- A change of status has a cause other than none: the flow was below minus its tolerance, the inlet below or the outlet above the set head by more than its tolerance; and it is
 -- reopened just where the link leaves Closed, TempClosed or Xhead.
-pub because : (k : LinkKind) (old : Status) (setting q h₁ h₂ up down : Float) (new : Status) (c : Cause) → updated_of k old setting q h₁ h₂ up down ≡ Becomes new c → Because k old setting q h₁ h₂ up down c
+pub because : (k : LinkKind) (old : Status) (setting q h₁ h₂ up down : Float) (new : Status) (c : Cause) → updated_of k old setting q h₁ h₂ up down ≡ Some (new, c) → Because k old setting q h₁ h₂ up down c
 unfolding updated_of pipe_status prv_status psv_status target shut
-because Pipe TempClosed x q h₁ h₂ a b new c e = let p : cause.Reopened ≡ c = cc in subst (Because Pipe TempClosed x q h₁ h₂ a b) p (by_leaving Pipe TempClosed x q h₁ h₂ a b refl)
+because Pipe TempClosed x q h₁ h₂ a b new c e = let p : cause.Reopened ≡ c = (pair_in _ _ _ _ e).1 in subst (Because Pipe TempClosed x q h₁ h₂ a b) p (by_leaving Pipe TempClosed x q h₁ h₂ a b refl)
 because Pipe Closed x q h₁ h₂ a b new c e = other (cc)
 because Pipe Open x q h₁ h₂ a b new c e = other (cc)
 because Pipe Active x q h₁ h₂ a b new c e = other (cc)

@@ -10,7 +10,6 @@ use lib.ListN.{length, get_or, set, replicate}
 use lib.Seq.{get_or-set_other}
 use Rattle.layout.specs.declared.places.Layout.{Layout}
 use Rattle.sheet.specs.Read.{read_of}
-use Rattle.sheet.specs.declared.reading.Reading.TheVariants.{Good}
 use Rattle.nodes.specs.declared.NodeIndex.{NodeIndex}
 use Rattle.state.specs.State.{State}
 use Rattle.entries.specs.Entries.{no_entry}
@@ -37,6 +36,7 @@ use Rattle.promises.proofs.GroundedOnce as once
 use Rattle.promises.proofs.Once as marks
 use Rattle.promises.proofs.Counts.{has, shows, entry_shown, number_shown, gn_grounded, trials_are}
 use Rattle.promises.proofs.Causes.{runs_a_trial, last_is, six_singular}
+use Rattle.std.specs.Prelude.{Ok}
 
 -- ---- the start
 
@@ -83,7 +83,7 @@ module _ (s : List ℕ) (l : Layout) where
       (λ new. record { entry = i; earlier = omega arith; is = solve_each_entry s l i (omega (arith, h)) ∙ new })
       (mark_comes s l (point_in s l i) v (ap (λ (t : State). get_or t.grounded v false) (sym (solve_each_state s l i)) ∙ c))
 
-  module _ (read : read_of s ≡ Good l) where
+  module _ (read : read_of s ≡ Ok l) where
     grounds-at : (j v : ℕ) → j < length (run_in s l).entries → get_or (run_in s l).entries j no_entry ≡ Grounded (record { 0 = v }) → Grounds s l (point_in s l j).state v
     grounds-at j v h e = grounded_only s l (point_in s l j).damping (point_in s l j).state (record { 0 = v }) (sym (solve_each_entry s l j h) ∙ e)
 
@@ -109,20 +109,20 @@ sg_has : (v : ℕ) → has 83 71 (Singular (record { 0 = v })) ≡ true
 unfolding has mark_of
 sg_has v = refl
 
-pub gn_number : (v : NodeIndex) → (mark_of (Grounded v)).2 ≡ v.0
+pub gn_number : (v : NodeIndex) → (mark_of (Grounded v)).number ≡ v.0
 unfolding mark_of
 gn_number v = refl
 
-sg_number : (v : NodeIndex) → (mark_of (Singular v)).2 ≡ v.0
+sg_number : (v : NodeIndex) → (mark_of (Singular v)).number ≡ v.0
 unfolding mark_of
 sg_number v = refl
 
 module _ (s : List ℕ) (x : Lent) (l : Layout) (w : Runs s x l) where
   bytes_of : (i : ℕ) → i < length (run_in s l).entries → (a b : ℕ) (e : Entry) → get_or (run_in s l).entries i no_entry ≡ e
-      → (marked a b (solve_of s x).lent.entries i ≡ has a b e) × (number_at (solve_of s x).lent.entries i ≡ (mark_of e).2)
+      → (marked a b (solve_of s x).lent.entries i ≡ has a b e) × (number_at (solve_of s x).lent.entries i ≡ (mark_of e).number)
   bytes_of i h a b e is = (
     shows (solve_of s x).lent.entries i (get_or (run_in s l).entries i no_entry) (entry_shown s x l w i h) a b ∙ ap (has a b) is,
-    number_shown s x l w i h ∙ ap (λ (y : Entry). (mark_of y).2) is,
+    number_shown s x l w i h ∙ ap (λ (y : Entry). (mark_of y).number) is,
   )
 
   gn_before : (i v : ℕ) → i ≤ length (run_in s l).entries → Entered s l i v → GnBefore (solve_of s x).lent.entries i v

@@ -12,8 +12,6 @@ use lib.ListN.{length}
 use Rattle.layout.specs.Places.{heading, link_place}
 use Rattle.layout.specs.declared.places.Layout.{Layout}
 use Rattle.found.specs.Searches.{or_else}
-use Rattle.found.specs.declared.Found.{Found}
-use Rattle.found.specs.declared.Found.TheVariants.{At, Nothing}
 use Rattle.fields.specs.Fields.{base_bounds, options_good, node_good, link_good}
 use Rattle.ends.specs.Ends.{ends_good}
 use Rattle.refusals.specs.Refusals.{number_of, place_of}
@@ -21,7 +19,6 @@ use Rattle.refusals.specs.declared.refusals.Refusal.{Refusal}
 use Rattle.refusals.specs.declared.refusals.Refusal.TheVariants.{Unreadable, NodeCount, LinkCount, Field, Ends}
 use Rattle.sheet.specs.Scan.{readable, records_from, has_options, has_pressures, nodes_at, nodes_of, links_of, layout_of, end_of}
 use Rattle.sheet.specs.Read.{first_bad, bad_ends, bad_link, bad_node, pressures_fine, bad_field, unless, with_unknowns, checked, after_scan, read_with, read_of}
-use Rattle.sheet.specs.declared.reading.Reading.TheVariants.{Good, Refused}
 use Rattle.sheet.proofs.Laws.{run_fits}
 use Rattle.sheet.proofs.Readings.{fine_none, fine_some, no_field, each_node, each_link, heading_inside, options_fit}
 use Rattle.answers.specs.Answers.{Lent, too_short}
@@ -33,6 +30,7 @@ use Rattle.promises.specs.Places.{FirstBad, ReadTo, Unread, no_options, behind, 
 use Rattle.promises.specs.Statements.{PlaceOfSheet, PlaceOfBuffer}
 use Rattle.promises.proofs.Never.{other, never}
 use Rattle.promises.proofs.Causes.{cause_of_told, end_past, short_only}
+use Rattle.std.specs.Prelude.{Err, None, Ok, Option, Some}
 
 -- ---- a run of records
 
@@ -117,7 +115,7 @@ record Found-bad (good : ℕ → Bool) (size k at place : ℕ) : Type 0 where
   bad : good (at + size * number) ≡ false
   earlier : (j : ℕ) → j < number → good (at + size * j) ≡ true
 
-found_bad : (good : ℕ → Bool) (size k at place : ℕ) → first_bad good size k at ≡ At place → Found-bad good size k at place
+found_bad : (good : ℕ → Bool) (size k at place : ℕ) → first_bad good size k at ≡ Some place → Found-bad good size k at place
 unfolding first_bad
 found_bad good size zero at place e = other (cc)
 found_bad good size (suc k) at place e = go (good at) refl e (λ f. found_bad good size k (at + size) place f)
@@ -128,7 +126,7 @@ found_bad good size (suc k) at place e = go (good at) refl e (λ f. found_bad go
     next : (i : ℕ) → at + size * suc i ≡ at + size + size * i
     next i = omega (arith, mul-suc size i)
 
-    go : (b : Bool) → good at ≡ b → cond b (first_bad good size k (at + size)) (At at) ≡ At place → (first_bad good size k (at + size) ≡ At place → Found-bad good size k (at + size) place) → Found-bad good size (suc k) at place
+    go : (b : Bool) → good at ≡ b → cond b (first_bad good size k (at + size)) (Some at) ≡ Some place → (first_bad good size k (at + size) ≡ Some place → Found-bad good size k (at + size) place) → Found-bad good size (suc k) at place
     go false g e rest =
         let same : at ≡ place = cc in
         record { number = 0; is = sym same ∙ sym first; one = omega arith; bad = ap good first ∙ g; earlier = λ j h. absurd (omega (arith, h)) }
@@ -149,13 +147,13 @@ found_bad good size (suc k) at place e = go (good at) refl e (λ f. found_bad go
 -- ---- 3
 
 module _ (s : List ℕ) (l : Layout) where
-  node_out : HeadingGood s l → (p : ℕ) → bad_node base_bounds l s ≡ At p → OutOfBounds s l p
+  node_out : HeadingGood s l → (p : ℕ) → bad_node base_bounds l s ≡ Some p → OutOfBounds s l p
   unfolding bad_node
   node_out h p e =
       let w = found_bad (node_good base_bounds s) 45 l.nodes l.node0 p e in
       subst (OutOfBounds s l) (sym w.is) (in_node w.number h (record { one = w.one; bad = w.bad; earlier = w.earlier }))
 
-  link_out : HeadingGood s l → bad_node base_bounds l s ≡ Nothing → (p : ℕ) → bad_link base_bounds l s ≡ At p → OutOfBounds s l p
+  link_out : HeadingGood s l → bad_node base_bounds l s ≡ None → (p : ℕ) → bad_link base_bounds l s ≡ Some p → OutOfBounds s l p
   unfolding bad_link link_place
   link_out h nodes p e =
       let w = found_bad (link_good base_bounds l.nodes s) l.stride l.links l.link0 p e in
@@ -171,23 +169,23 @@ module _ (s : List ℕ) (l : Layout) where
       go true e = in_pressures_said o e (fine_some base_bounds l s e ∙ p)
       go false e = never (sym p ∙ sym (fine_none base_bounds l s e))
 
-  field_out : (p : ℕ) → bad_field base_bounds l s ≡ At p → OutOfBounds s l p
+  field_out : (p : ℕ) → bad_field base_bounds l s ≡ Some p → OutOfBounds s l p
   unfolding bad_field
   field_out p e = go (options_good base_bounds s) refl (pressures_fine base_bounds l s) refl (bad_node base_bounds l s) refl e
     where
-      go : (o : Bool) → options_good base_bounds s ≡ o → (d : Bool) → pressures_fine base_bounds l s ≡ d → (f : Found) → bad_node base_bounds l s ≡ f
-          → cond o (cond d (or_else f (bad_link base_bounds l s)) (At 29)) (At 0) ≡ At p → OutOfBounds s l p
+      go : (o : Bool) → options_good base_bounds s ≡ o → (d : Bool) → pressures_fine base_bounds l s ≡ d → (f : Option ℕ) → bad_node base_bounds l s ≡ f
+          → cond o (cond d (or_else f (bad_link base_bounds l s)) (Some 29)) (Some 0) ≡ Some p → OutOfBounds s l p
       go false a d b f c z = let same : 0 ≡ p = cc in subst (OutOfBounds s l) same (in_options_said a)
       go true a false b f c z = let same : 29 ≡ p = cc in subst (OutOfBounds s l) same (pressures_out a b)
-      go true a true b (At q) c z = node_out (heading_good a b) p (c ∙ z)
-      go true a true b Nothing c z = link_out (heading_good a b) c p z
+      go true a true b (Some q) c z = node_out (heading_good a b) p (c ∙ z)
+      go true a true b None c z = link_out (heading_good a b) c p z
 
   -- ---- 4
 
-  in_bounds : bad_field base_bounds l s ≡ Nothing → InBounds s l
+  in_bounds : bad_field base_bounds l s ≡ None → InBounds s l
   in_bounds e = let w = no_field base_bounds l s e in record { head = heading_good w.0 w.1; nodes = each_node base_bounds l s w.2; links = each_link base_bounds l s w.3 }
 
-  ends_bad : (p : ℕ) → bad_ends l s ≡ At p → (j : ℕ) × ((p ≡ link_place l j) × FirstBad (ends_good l s) (link_place l) l.links j)
+  ends_bad : (p : ℕ) → bad_ends l s ≡ Some p → (j : ℕ) × ((p ≡ link_place l j) × FirstBad (ends_good l s) (link_place l) l.links j)
   unfolding bad_ends link_place
   ends_bad p e =
       let w = found_bad (ends_good l s) l.stride l.links l.link0 p e in
@@ -199,25 +197,25 @@ module _ (s : List ℕ) (r : Refusal) where
   abbrev For : Refusal → Type 0
   For q = RefusedFor s (number_of q) (place_of q)
 
-  checked_for : WholeRead s (layout_of s) → RightCounts (layout_of s) → checked base_bounds (layout_of s) s ≡ Refused r → For r
+  checked_for : WholeRead s (layout_of s) → RightCounts (layout_of s) → checked base_bounds (layout_of s) s ≡ Err r → For r
   unfolding checked number_of place_of
   checked_for w n e = go (bad_field base_bounds (layout_of s) s) refl (bad_ends (layout_of s) s) refl e
     where
-      go : (f : Found) → bad_field base_bounds (layout_of s) s ≡ f → (g : Found) → bad_ends (layout_of s) s ≡ g
-          → unless f Field (unless g Ends (Good (with_unknowns s (layout_of s)))) ≡ Refused r → For r
-      go (At p) a g b z = let same : Field p ≡ r = cc in subst For same (outside p w n (field_out s (layout_of s) p a))
-      go Nothing a (At p) b z =
+      go : (f : Option ℕ) → bad_field base_bounds (layout_of s) s ≡ f → (g : Option ℕ) → bad_ends (layout_of s) s ≡ g
+          → unless f Field (unless g Ends (Ok (with_unknowns s (layout_of s)))) ≡ Err r → For r
+      go (Some p) a g b z = let same : Field p ≡ r = cc in subst For same (outside p w n (field_out s (layout_of s) p a))
+      go None a (Some p) b z =
           let same : Ends p ≡ r = cc in
           let d = ends_bad s (layout_of s) p b in
           subst For same (subst (RefusedFor s 4) (sym d.1.0) (ends d.0 w n (in_bounds s (layout_of s) a) d.1.1))
-      go Nothing a Nothing b z = other (cc)
+      go None a None b z = other (cc)
 
-  counted_for : WholeRead s (layout_of s) → after_scan base_bounds (layout_of s) s ≡ Refused r → For r
+  counted_for : WholeRead s (layout_of s) → after_scan base_bounds (layout_of s) s ≡ Err r → For r
   unfolding after_scan number_of place_of base_bounds
   counted_for w e = go (leb 1 (layout_of s).nodes) refl (leb (layout_of s).nodes 64) refl (leb (layout_of s).links 128) refl e
     where
       go : (x : Bool) → leb 1 (layout_of s).nodes ≡ x → (y : Bool) → leb (layout_of s).nodes 64 ≡ y → (z : Bool) → leb (layout_of s).links 128 ≡ z
-          → cond (x && y) (cond z (checked base_bounds (layout_of s) s) (Refused LinkCount)) (Refused NodeCount) ≡ Refused r → For r
+          → cond (x && y) (cond z (checked base_bounds (layout_of s) s) (Err LinkCount)) (Err NodeCount) ≡ Err r → For r
       go false a y b z c e = let same : NodeCount ≡ r = cc in subst For same (miscounted 0 w (node_count (inl (leb-false 1 (layout_of s).nodes a))))
       go true a false b z c e = let same : NodeCount ≡ r = cc in subst For same (miscounted 0 w (node_count (inr (leb-false (layout_of s).nodes 64 b))))
       go true a true b false c e =
@@ -226,12 +224,12 @@ module _ (s : List ℕ) (r : Refusal) where
       go true a true b true c e =
           checked_for w (record { some = leb-true 1 (layout_of s).nodes a; nodes = leb-true (layout_of s).nodes 64 b; links = leb-true (layout_of s).links 128 c }) e
 
-  refused_for : read_of s ≡ Refused r → For r
+  refused_for : read_of s ≡ Err r → For r
   unfolding read_of read_with number_of place_of
   refused_for e = go (has_options s) refl (eqb (end_of s) (length s)) refl e
     where
       go : (x : Bool) → has_options s ≡ x → (y : Bool) → eqb (end_of s) (length s) ≡ y
-          → cond x (cond y (after_scan base_bounds (layout_of s) s) (Refused (Unreadable (end_of s)))) (Refused (Unreadable 0)) ≡ Refused r → For r
+          → cond x (cond y (after_scan base_bounds (layout_of s) s) (Err (Unreadable (end_of s)))) (Err (Unreadable 0)) ≡ Err r → For r
       go false a y b z = let same : Unreadable 0 ≡ r = cc in subst For same (unread 0 (no_options (sym (options_is s) ∙ a)))
       go true a false b z = let same : Unreadable (end_of s) ≡ r = cc in subst For same (unread (end_of s) (unread_behind s a (eqb-false (end_of s) (length s) b)))
       go true a true b z = counted_for (whole_sheet s a (eqb-true (end_of s) (length s) b)) z
@@ -257,7 +255,7 @@ untold : {i has asked : ℕ} (place : ℕ) → place < i → Tested place i has 
 untold place e = record { here = λ z. absurd (omega (arith, e, z)); passed = λ z. absurd (omega (arith, e, z)) }
 
 module _ (l : Layout) (trials : ℕ) (b : Lent) (place : ℕ) where
-  short_at : too_short l trials (length b.heads) (length b.demands) (length b.flows) (length b.statuses) (length b.entries) (length b.scratch) ≡ At place → ShortAt l trials b place
+  short_at : too_short l trials (length b.heads) (length b.demands) (length b.flows) (length b.statuses) (length b.entries) (length b.scratch) ≡ Some place → ShortAt l trials b place
   unfolding too_short
   short_at z =
       go (ltb (length b.heads) l.nodes) refl (ltb (length b.demands) l.nodes) refl (ltb (length b.flows) l.links) refl
@@ -265,7 +263,7 @@ module _ (l : Layout) (trials : ℕ) (b : Lent) (place : ℕ) where
     where
       go : (h : Bool) → ltb (length b.heads) l.nodes ≡ h → (d : Bool) → ltb (length b.demands) l.nodes ≡ d → (q : Bool) → ltb (length b.flows) l.links ≡ q
           → (c : Bool) → ltb (length b.statuses) l.links ≡ c → (r : Bool) → ltb (length b.entries) (4 * trials) ≡ r → (x : Bool) → ltb (length b.scratch) 4096 ≡ x
-          → cond h (At 0) (cond d (At 1) (cond q (At 2) (cond c (At 3) (cond r (At 4) (cond x (At 5) Nothing))))) ≡ At place → ShortAt l trials b place
+          → cond h (Some 0) (cond d (Some 1) (cond q (Some 2) (cond c (Some 3) (cond r (Some 4) (cond x (Some 5) None))))) ≡ Some place → ShortAt l trials b place
       go true h d d' q q' c c' r r' x x' z =
           let e : 0 ≡ place = cc in
           record {
@@ -334,7 +332,7 @@ module _ (l : Layout) (trials : ℕ) (b : Lent) (place : ℕ) where
           }
       go false h false d false q false c false r false x z = other (cc)
 
-short_in_lem : (s : List ℕ) (l : Layout) (x : Lent) (p : ℕ) → short_in s l x ≡ At p → ShortAt l (trials_of s) x p
+short_in_lem : (s : List ℕ) (l : Layout) (x : Lent) (p : ℕ) → short_in s l x ≡ Some p → ShortAt l (trials_of s) x p
 unfolding short_in
 short_in_lem s l x p e = short_at l (trials_of s) x p e
 

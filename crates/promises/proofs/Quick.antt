@@ -14,18 +14,16 @@ use Rattle.damping.specs.declared.steps.Damping.{Damping}
 use Rattle.entries.specs.declared.Entry.{Entry}
 use Rattle.trial.specs.Trial.{Outcome, Repair, system_of, factored, trial_with}
 use Rattle.entries.specs.declared.Ended.TheVariants.{Limit}
-use Rattle.entries.specs.declared.Going.{Going}
-use Rattle.entries.specs.declared.Going.TheVariants.{On, Over}
-use Rattle.entries.specs.Entries.{going_of, damping_start, none}
+use Rattle.entries.specs.Entries.{going_of, damping_start, none, Going}
 use Rattle.runs.specs.Run.{Run, then_run, run_with, finish}
 use lib.ListN.{length}
 use Rattle.sheet.specs.Read.{read_of}
-use Rattle.found.specs.declared.Found.TheVariants.{Nothing}
-use Rattle.sheet.specs.declared.reading.Reading.TheVariants.{Good}
 use Rattle.layout.specs.declared.places.Layout.{Layout}
 use Rattle.answers.specs.Answers.{Lent, Solved, too_short}
 use Rattle.conclusion.specs.Conclusion.{told}
 use Rattle.solver.specs.Solve.{trials_of, start_of, run_of, solved_with, after_short, after_read, solve_with}
+use Rattle.std.specs.Prelude.{None, Ok}
+use Rattle.std.proofs.Common.{Break, Continue}
 
 unfoldable pub quick_system : List ℕ → Layout → State → System
 quick_system s l t =
@@ -56,8 +54,8 @@ quick_run repair s l (suc m) d t =
 
 same_then : (e : Entry) (t : State) (g : Going) (f h : Damping → State → Run) → ((d : Damping) (u : State) → f d u ≡ h d u) → then_run e t g f ≡ then_run e t g h
 unfolding then_run
-same_then e t (On d) f h p = rw (p d t)
-same_then e t (Over z) f h p = refl
+same_then e t (Continue d) f h p = rw (p d t)
+same_then e t (Break z) f h p = refl
 
 pub quick_run_lem : (repair : Repair) (s : List ℕ) (l : Layout) (m : ℕ) (d : Damping) (t : State) → run_with repair s l m d t ≡ quick_run repair s l m d t
 unfolding run_with quick_run
@@ -71,8 +69,8 @@ quick_solve repair s l b =
     let f = finish 0 none b.entries (quick_run repair s l (trials_of s) damping_start (start_of s l)) in
     told s l (trials_of s) b f.state f.ran.tally f.bytes f.ran.ended
 
-pub quick_solve_lem : (repair : Repair) (s : List ℕ) (l : Layout) (b : Lent) → read_of s ≡ Good l
-    → too_short l (trials_of s) (length b.heads) (length b.demands) (length b.flows) (length b.statuses) (length b.entries) (length b.scratch) ≡ Nothing
+pub quick_solve_lem : (repair : Repair) (s : List ℕ) (l : Layout) (b : Lent) → read_of s ≡ Ok l
+    → too_short l (trials_of s) (length b.heads) (length b.demands) (length b.flows) (length b.statuses) (length b.entries) (length b.scratch) ≡ None
     → solve_with repair s b ≡ quick_solve repair s l b
 unfolding solve_with after_read after_short solved_with run_of quick_solve
 quick_solve_lem repair s l b good enough = rw (good, enough, quick_run_lem repair s l (trials_of s) damping_start (start_of s l))

@@ -7,7 +7,6 @@ use native.Mathlib.Omega.{arith}
 use lib.Dec.{eqb}
 use lib.ListN.{length, get_or}
 use Rattle.found.specs.Searches.{First, first_of}
-use Rattle.found.specs.declared.Found.TheVariants.{At, Nothing}
 use Rattle.found.proofs.Firsts.{first_is, first_none}
 use Rattle.layout.specs.declared.places.Layout.{Layout}
 use Rattle.entries.specs.Entries.{no_entry}
@@ -27,10 +26,11 @@ use Rattle.promises.specs.Statements.{NoneShownIsBare}
 use Rattle.promises.proofs.Never.{never}
 use Rattle.promises.proofs.Counts.{written_shows, entry_shown, trials_are}
 use Rattle.promises.proofs.Unmended.{unmarked_is_bare}
+use Rattle.std.specs.Prelude.{None, Some}
 
 -- an entry's letters are VF or GN
 unfoldable is_repair : Entry → Bool
-is_repair e = (eqb (mark_of e).0 86 && eqb (mark_of e).1 70) || (eqb (mark_of e).0 71 && eqb (mark_of e).1 78)
+is_repair e = (eqb (mark_of e).first 86 && eqb (mark_of e).second 70) || (eqb (mark_of e).first 71 && eqb (mark_of e).second 78)
 
 mends_is : (e : Entry) → is_repair e ≡ mends e
 unfolding is_repair mends mark_of
@@ -66,12 +66,12 @@ module _ (s : List ℕ) (x : Lent) (l : Layout) (w : Runs s x l) where
   search_is = ap (first_of (shows (solve_of s x).lent.entries)) (trials_are s x l w)
 
   -- Where the record shows none, no trial repaired anything: no valve was freed and no node grounded.
-  pub none_shown : repair_shown (solve_of s x).lent.entries (solve_of s x).answer.trials ≡ Nothing → (i : ℕ) → i < length (run_in s l).entries → mended s l i ≡ false
+  pub none_shown : repair_shown (solve_of s x).lent.entries (solve_of s x).answer.trials ≡ None → (i : ℕ) → i < length (run_in s l).entries → mended s l i ≡ false
   none_shown e i h =
       sym (solve_mends i h) ∙ first_none (shows (solve_of s x).lent.entries) (length (run_in s l).entries) (sym search_is ∙ e) i h
 
   -- Where it shows one, that trial is the first that did.
-  pub first_shown : (i : ℕ) → repair_shown (solve_of s x).lent.entries (solve_of s x).answer.trials ≡ At i → First (mended s l) (length (run_in s l).entries) i
+  pub first_shown : (i : ℕ) → repair_shown (solve_of s x).lent.entries (solve_of s x).answer.trials ≡ Some i → First (mended s l) (length (run_in s l).entries) i
   first_shown i e =
       let f = first_is (shows (solve_of s x).lent.entries) (length (run_in s l).entries) i (sym search_is ∙ e) in
       record {
@@ -95,7 +95,7 @@ unfolding count
 count_none zero f h = refl
 count_none (suc n) f h = rw (h n (omega arith)) (count_none n f (λ i b. h i (omega arith)))
 
-none_marked : (bytes : List ℕ) (n : ℕ) → repair_shown bytes n ≡ Nothing → (count n (marked 86 70 bytes) ≡ 0) × (count n (marked 71 78 bytes) ≡ 0)
+none_marked : (bytes : List ℕ) (n : ℕ) → repair_shown bytes n ≡ None → (count n (marked 86 70 bytes) ≡ 0) × (count n (marked 71 78 bytes) ≡ 0)
 unfolding repair_shown
 none_marked bytes n e =
     (count_none n (marked 86 70 bytes) (λ i h. (no_mark bytes i (first_none (shows bytes) n e i h)).0), count_none n (marked 71 78 bytes) (λ i h. (no_mark bytes i (first_none (shows bytes) n e i h)).1))

@@ -75,8 +75,8 @@ module _ (s : List ℕ) (x : Lent) (l : Layout) (w : Runs s x l) where
       let hj : j < length (run_in s l).entries = omega (arith, h, n) in
       let u = gn_grounded s x l w i hi a in
       let v = gn_grounded s x l w j hj b in
-      let p = number_shown s x l w i hi ∙ ap (λ (y : Entry). (mark_of y).2) u.1 ∙ gn_number u.0 in
-      let q = number_shown s x l w j hj ∙ ap (λ (y : Entry). (mark_of y).2) v.1 ∙ gn_number v.0 in
+      let p = number_shown s x l w i hi ∙ ap (λ (y : Entry). (mark_of y).number) u.1 ∙ gn_number u.0 in
+      let q = number_shown s x l w j hj ∙ ap (λ (y : Entry). (mark_of y).number) v.1 ∙ gn_number v.0 in
       let same : v.0.0 ≡ u.0.0 = sym q ∙ sym e ∙ p in
       solve_grounded_once s l w.read u.0 i j z hj u.1 (v.1 ∙ ap (λ (k : ℕ). Grounded (record { 0 = k })) same)
 

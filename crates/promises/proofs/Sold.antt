@@ -10,8 +10,6 @@ use lib.Dec.{eqb}
 use lib.ListN.{length, get_or}
 use lib.Ieee.{Float, lt, le}
 use Rattle.found.specs.Searches.{First}
-use Rattle.found.specs.declared.Found.{Found}
-use Rattle.found.specs.declared.Found.TheVariants.{At, Nothing}
 use Rattle.found.proofs.Firsts.{first_is, first_none}
 use Rattle.layout.specs.declared.places.Layout.{Layout}
 use Rattle.records.specs.Records.{pressures_of}
@@ -19,9 +17,7 @@ use Rattle.constants.specs.Constants as constant
 use Rattle.nodes.specs.Nodes.{node_of, in_service}
 use Rattle.links.proofs.Reading.{start_of, end_of}
 use Rattle.drawing.specs.Drawing.{gives_way}
-use Rattle.sheet.specs.Read.{read_of}
-use Rattle.sheet.specs.declared.reading.Reading.{Reading}
-use Rattle.sheet.specs.declared.reading.Reading.TheVariants.{Good, Refused}
+use Rattle.sheet.specs.Read.{read_of, Reading}
 use Rattle.links.specs.declared.LinkIndex.{LinkIndex}
 use Rattle.nodes.specs.declared.NodeIndex.{NodeIndex}
 use Rattle.entries.specs.Entries.{no_entry}
@@ -58,35 +54,36 @@ use Rattle.promises.proofs.Never.{other, never}
 use Rattle.promises.proofs.Counts.{trials_are}
 use Rattle.promises.proofs.RepairsShown.{none_shown, first_shown, none_shown_is_bare}
 use Rattle.promises.proofs.Causes.{cause_of_told, least_one}
+use Rattle.std.specs.Prelude.{Err, None, Ok, Option, Some}
 
 -- ---- the first line that holds, over any list of lines
 
 -- the kth of these lines is the first that found something, and it found the verdict's place
-record Stands (n : ℕ) (fs : List Found) (v : Verdict) (k : ℕ) : Type 0 where
+record Stands (n : ℕ) (fs : List (Option ℕ)) (v : Verdict) (k : ℕ) : Type 0 where
   number : v.number ≡ n + k
   below : k < length fs
-  found : get_or fs k Nothing ≡ At v.place
-  before : (i : ℕ) → i < k → get_or fs i Nothing ≡ Nothing
+  found : get_or fs k None ≡ Some v.place
+  before : (i : ℕ) → i < k → get_or fs i None ≡ None
 
 -- none of them found anything, and the verdict is 0 at 0
-record Silent (fs : List Found) (v : Verdict) : Type 0 where
+record Silent (fs : List (Option ℕ)) (v : Verdict) : Type 0 where
   number : v.number ≡ 0
   place : v.place ≡ 0
-  none : (i : ℕ) → get_or fs i Nothing ≡ Nothing
+  none : (i : ℕ) → get_or fs i None ≡ None
 
-none_more : (more : List Found) → ((i : ℕ) → get_or more i Nothing ≡ Nothing) → (i : ℕ) → get_or (Nothing ∷ more) i Nothing ≡ Nothing
+none_more : (more : List (Option ℕ)) → ((i : ℕ) → get_or more i None ≡ None) → (i : ℕ) → get_or (None ∷ more) i None ≡ None
 none_more more h zero = refl
 none_more more h (suc i) = h i
 
-before_more : (more : List Found) (k : ℕ) → ((i : ℕ) → i < k → get_or more i Nothing ≡ Nothing) → (i : ℕ) → i < suc k → get_or (Nothing ∷ more) i Nothing ≡ Nothing
+before_more : (more : List (Option ℕ)) (k : ℕ) → ((i : ℕ) → i < k → get_or more i None ≡ None) → (i : ℕ) → i < suc k → get_or (None ∷ more) i None ≡ None
 before_more more k h zero b = refl
 before_more more k h (suc i) b = h i (omega arith)
 
-lines : (n : ℕ) (fs : List Found) → Silent fs (first_line n fs) ⊎ ((k : ℕ) × Stands n fs (first_line n fs) k)
+lines : (n : ℕ) (fs : List (Option ℕ)) → Silent fs (first_line n fs) ⊎ ((k : ℕ) × Stands n fs (first_line n fs) k)
 unfolding first_line told_of
 lines n [] = inl (record { number = refl; place = refl; none = λ i. refl })
-lines n (At p ∷ more) = inr (0, record { number = omega arith; below = omega arith; found = refl; before = λ i b. absurd (let y : ⊥ = omega arith in y) })
-lines n (Nothing ∷ more) =
+lines n (Some p ∷ more) = inr (0, record { number = omega arith; below = omega arith; found = refl; before = λ i b. absurd (let y : ⊥ = omega arith in y) })
+lines n (None ∷ more) =
     ⊎_elim
     (λ (w : Silent more (first_line (suc n) more)). inl (record { number = w.number; place = w.place; none = none_more more w.none }))
     (λ w.
@@ -94,7 +91,7 @@ lines n (Nothing ∷ more) =
     (lines (suc n) more)
 
 -- Where the number is 0, the first being 1 or above, none found anything;
-pub none_told : (n : ℕ) (fs : List Found) → 1 ≤ n → (first_line n fs).number ≡ 0 → (i : ℕ) → get_or fs i Nothing ≡ Nothing
+pub none_told : (n : ℕ) (fs : List (Option ℕ)) → 1 ≤ n → (first_line n fs).number ≡ 0 → (i : ℕ) → get_or fs i None ≡ None
 none_told n fs h e =
     ⊎_elim
     (λ (w : Silent fs (first_line n fs)). w.none)
@@ -102,8 +99,8 @@ none_told n fs h e =
     (lines n fs)
 
 -- where it is not, the line of that number found the place, and those before it nothing.
-pub one_told : (n : ℕ) (fs : List Found) → 1 ≤ (first_line n fs).number
-    → (get_or fs ((first_line n fs).number - n) Nothing ≡ At (first_line n fs).place) × ((i : ℕ) → i < (first_line n fs).number - n → get_or fs i Nothing ≡ Nothing)
+pub one_told : (n : ℕ) (fs : List (Option ℕ)) → 1 ≤ (first_line n fs).number
+    → (get_or fs ((first_line n fs).number - n) None ≡ Some (first_line n fs).place) × ((i : ℕ) → i < (first_line n fs).number - n → get_or fs i None ≡ None)
 one_told n fs h =
     ⊎_elim
     (λ (w : Silent fs (first_line n fs)). absurd (let y : ⊥ = omega (arith, w.number) in y))
@@ -127,7 +124,7 @@ both : (a b : Bool) → (a && b) ≡ false → a ≡ true → b ≡ false
 both true b h t = h
 both false b h t = never t
 
-taken : (p : Bool) (f : Found) → p ≡ true → cond p f Nothing ≡ f
+taken : (p : Bool) (f : Option ℕ) → p ≡ true → cond p f None ≡ f
 taken true f t = refl
 taken false f t = never t
 
@@ -139,13 +136,13 @@ pressed_by demand pressure lowest e =
     (w.0, λ t. kept (lt constant.zero demand) (le lowest pressure) w.1 t)
 
 module _ (s : List ℕ) (l : Layout) (limits : Limits) (b : Lent) where
-  balanced_by : unbalanced_of s l (sums_of s l b) limits.flow ≡ Nothing → Balanced s l limits b
+  balanced_by : unbalanced_of s l (sums_of s l b) limits.flow ≡ None → Balanced s l limits b
   balanced_by e = record { sum = λ i h t. all_balanced s l (sums_of s l b) limits.flow e i h t }
 
-  lawful_by : unsettled_of s l (view_of s l b) limits ≡ Nothing → Lawful s l limits b
+  lawful_by : unsettled_of s l (view_of s l b) limits ≡ None → Lawful s l limits b
   lawful_by e = record { change = λ j h p q. all-slight s l (view_of s l b) limits j e h (rw (start_of s l j) p) (rw (end_of s l j) q) }
 
-  holding_by : unheld_of s l b.heads b.statuses limits.head ≡ Nothing → Holding s l limits b
+  holding_by : unheld_of s l b.heads b.statuses limits.head ≡ None → Holding s l limits b
   unfolding unheld_of misses_at
   holding_by e =
       record {
@@ -154,7 +151,7 @@ module _ (s : List ℕ) (l : Layout) (limits : Limits) (b : Lent) where
             (first_none (misses_at s l b.heads b.statuses limits.head) l.links e j h) t;
       }
 
-  drawing_by : ill_drawn s l b.heads b.demands limits.flow ≡ Nothing → Drawing s l limits b
+  drawing_by : ill_drawn s l b.heads b.demands limits.flow ≡ None → Drawing s l limits b
   unfolding ill_drawn ill_at first_ill
   drawing_by e =
       record {
@@ -163,12 +160,12 @@ module _ (s : List ℕ) (l : Layout) (limits : Limits) (b : Lent) where
             (first_none (ill_at s l (pressures_of s) b.heads b.demands limits.flow) l.nodes (sym (taken l.pressures (first_ill s l (pressures_of s) b.heads b.demands limits.flow) p) ∙ e) i h) t;
       }
 
-  not_low : low_of s l b.heads limits.pressure ≡ Nothing → (i : ℕ) → i < l.nodes → in_service s l i ≡ true → too_low (node_of s l i).demand (pressure_at s l b i) limits.pressure ≡ false
+  not_low : low_of s l b.heads limits.pressure ≡ None → (i : ℕ) → i < l.nodes → in_service s l i ≡ true → too_low (node_of s l i).demand (pressure_at s l b i) limits.pressure ≡ false
   unfolding low_of low_at
   not_low e i h t =
       both (in_service s l i) (too_low (node_of s l i).demand (pressure_at s l b i) limits.pressure) (first_none (low_at s l b.heads limits.pressure) l.nodes e i h) t
 
-  pressed_all : low_of s l b.heads limits.pressure ≡ Nothing → Pressed s l limits b
+  pressed_all : low_of s l b.heads limits.pressure ≡ None → Pressed s l limits b
   pressed_all e =
       record {
         above = λ i h t. (pressed_by (node_of s l i).demand (pressure_at s l b i) limits.pressure (not_low e i h t)).0;
@@ -188,7 +185,7 @@ zero_runs s x z = go (solve_of s x).answer.number (solve_of s x).answer.place (c
 -- ---- the lines of a sale
 
 -- the lines 2 to 8 of the sale of a sheet so read
-abbrev lines_of : List ℕ → Layout → Limits → Solved → List Found
+abbrev lines_of : List ℕ → Layout → Limits → Solved → List (Option ℕ)
 lines_of s l limits o = rule s l limits o.answer.trials o.lent.heads o.lent.demands o.lent.flows o.lent.statuses o.lent.entries
 
 -- the sale's answer and buffers are the solve's
@@ -202,8 +199,8 @@ module _ (s : List ℕ) (limits : Limits) (x : Lent) where
   verdict_unsolved n e = go (read_of s)
     where
       go : (r : Reading) → verdict_by s limits (solve_of s x) r ≡ unsold (solve_of s x).answer
-      go (Refused r) = refl
-      go (Good l) = let f : eqb (solve_of s x).answer.number 0 ≡ false = ne_eqb (solve_of s x).answer.number 0 (λ (q : (solve_of s x).answer.number ≡ 0). omega arith) in rw f
+      go (Err r) = refl
+      go (Ok l) = let f : eqb (solve_of s x).answer.number 0 ≡ false = ne_eqb (solve_of s x).answer.number 0 (λ (q : (solve_of s x).answer.number ≡ 0). omega arith) in rw f
 
   verdict_judged : (l : Layout) → Runs s x l → (solve_of s x).answer.number ≡ 0 → (sale_of s limits x).verdict ≡ first_line 2 (lines_of s l limits (solve_of s x))
   unfolding sale_of verdict_of verdict_by judge_of
@@ -216,7 +213,7 @@ module _ (s : List ℕ) (limits : Limits) (x : Lent) where
     unfolding sale_of
     solves = record { read = w.read; number = z }
 
-    unrepaired-by : repair_shown (solve_of s x).lent.entries (solve_of s x).answer.trials ≡ Nothing → Unrepaired s l x (sale_of s limits x)
+    unrepaired-by : repair_shown (solve_of s x).lent.entries (solve_of s x).answer.trials ≡ None → Unrepaired s l x (sale_of s limits x)
     unfolding sale_of
     unrepaired-by e =
         let same = none_shown_is_bare s x e in
@@ -226,13 +223,13 @@ module _ (s : List ℕ) (limits : Limits) (x : Lent) where
           lent = ap (λ (o : Solved). o.lent) same;
         }
 
-    joined_by : undetermined_of s l (solve_of s x).lent.flows (solve_of s x).lent.statuses ≡ Nothing → Joined s l (sale_of s limits x).lent
+    joined_by : undetermined_of s l (solve_of s x).lent.flows (solve_of s x).lent.statuses ≡ None → Joined s l (sale_of s limits x).lent
     unfolding sale_of
     joined_by e =
         let k = network_of s l w.read in
         determined_is s l (solve_of s x).lent.flows (solve_of s x).lent.statuses k.ends k.nodes k.links e
 
-    offered-by : ((i : ℕ) → get_or (lines_of s l limits (solve_of s x)) i Nothing ≡ Nothing) → Offered s l limits x (sale_of s limits x)
+    offered-by : ((i : ℕ) → get_or (lines_of s l limits (solve_of s x)) i None ≡ None) → Offered s l limits x (sale_of s limits x)
     unfolding sale_of rule
     offered-by h =
         record {
@@ -272,8 +269,8 @@ mends_grounded : (v : NodeIndex) → mends (Grounded v) ≡ true
 unfolding mends
 mends_grounded v = refl
 
-same_layout : (s : List ℕ) (l k : Layout) → read_of s ≡ Good l → read_of s ≡ Good k → k ≡ l
-same_layout s l k e f = let g : Good k ≡ Good l = sym f ∙ e in cc
+same_layout : (s : List ℕ) (l k : Layout) → read_of s ≡ Ok l → read_of s ≡ Ok k → k ≡ l
+same_layout s l k e f = let g : Ok k ≡ Ok l = sym f ∙ e in cc
 
 module _ (s : List ℕ) (limits : Limits) (x : Lent) (l : Layout) where
   mended_unsold : Unrepaired s l x (sale_of s limits x) → (i : ℕ) → i < (sale_of s limits x).answer.trials → mended s l i ≡ true → ⊥
@@ -292,7 +289,7 @@ june_never_sold s limits x l e j v =
 
 -- ---- why each verdict is told
 
-drawn_at : (p : Bool) (f : Found) (i : ℕ) → cond p f Nothing ≡ At i → (p ≡ true) × (f ≡ At i)
+drawn_at : (p : Bool) (f : Option ℕ) (i : ℕ) → cond p f None ≡ Some i → (p ≡ true) × (f ≡ Some i)
 drawn_at true f i e = (refl, e)
 drawn_at false f i e = other (cc)
 
@@ -305,32 +302,32 @@ module _ (s : List ℕ) (limits : Limits) (x : Lent) where
     b = (solve_of s x).lent
 
     -- the first repair, and the lowest place of each other line
-    repaired-at : (p : ℕ) → repair_shown b.entries (solve_of s x).answer.trials ≡ At p → First (mended s l) (sale_of s limits x).answer.trials p
+    repaired-at : (p : ℕ) → repair_shown b.entries (solve_of s x).answer.trials ≡ Some p → First (mended s l) (sale_of s limits x).answer.trials p
     unfolding sale_of
     repaired-at p e = rw (trials_are s x l w) (first_shown s x l w p e)
 
-    undetermined-at : (p : ℕ) → undetermined_of s l b.flows b.statuses ≡ At p → Undetermined s l b.flows b.statuses p
+    undetermined-at : (p : ℕ) → undetermined_of s l b.flows b.statuses ≡ Some p → Undetermined s l b.flows b.statuses p
     undetermined-at p e =
         let k = network_of s l w.read in
         undetermined_is s l b.flows b.statuses k.ends k.nodes k.links p e
 
-    unheld-at : (p : ℕ) → unheld_of s l b.heads b.statuses limits.head ≡ At p → First (misses_at s l b.heads b.statuses limits.head) l.links p
+    unheld-at : (p : ℕ) → unheld_of s l b.heads b.statuses limits.head ≡ Some p → First (misses_at s l b.heads b.statuses limits.head) l.links p
     unfolding unheld_of
     unheld-at p e = first_is (misses_at s l b.heads b.statuses limits.head) l.links p e
 
-    undrawn-at : (p : ℕ) → ill_drawn s l b.heads b.demands limits.flow ≡ At p
+    undrawn-at : (p : ℕ) → ill_drawn s l b.heads b.demands limits.flow ≡ Some p
         → (l.pressures ≡ true) × First (ill_at s l (pressures_of s) b.heads b.demands limits.flow) l.nodes p
     unfolding ill_drawn first_ill
     undrawn-at p e =
         let d = drawn_at l.pressures (first_ill s l (pressures_of s) b.heads b.demands limits.flow) p e in
         (d.0, first_is (ill_at s l (pressures_of s) b.heads b.demands limits.flow) l.nodes p d.1)
 
-    low-at : (p : ℕ) → low_of s l b.heads limits.pressure ≡ At p → First (low_at s l b.heads limits.pressure) l.nodes p
+    low-at : (p : ℕ) → low_of s l b.heads limits.pressure ≡ Some p → First (low_at s l b.heads limits.pressure) l.nodes p
     unfolding low_of
     low-at p e = first_is (low_at s l b.heads limits.pressure) l.nodes p e
 
-    by-line : (k p : ℕ) → k < length (lines_of s l limits (solve_of s x)) → get_or (lines_of s l limits (solve_of s x)) k Nothing ≡ At p
-        → ((i : ℕ) → i < k → get_or (lines_of s l limits (solve_of s x)) i Nothing ≡ Nothing) → told-so (2 + k) p
+    by-line : (k p : ℕ) → k < length (lines_of s l limits (solve_of s x)) → get_or (lines_of s l limits (solve_of s x)) k None ≡ Some p
+        → ((i : ℕ) → i < k → get_or (lines_of s l limits (solve_of s x)) i None ≡ None) → told-so (2 + k) p
     unfolding sale_of rule
     by-line zero p h e n = repaired l p (solves s limits x l w z) (repaired-at p e)
     by-line (suc zero) p h e n = undetermined l p (solves s limits x l w z) (unrepaired-by s limits x l w z (n 0 (omega arith))) (undetermined-at p e)

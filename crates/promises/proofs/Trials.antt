@@ -9,8 +9,6 @@ use lib.Ieee.{Float, le, lt, eq, of_bits, of_fields, odd}
 use lib.Count.{count_trailing_zeros}
 use Rattle.records.specs.Records.{options_of}
 use Rattle.records.specs.declared.records.Options.{Options}
-use Rattle.found.specs.declared.Found.{Found}
-use Rattle.found.specs.declared.Found.TheVariants.{At, Nothing}
 use Rattle.layout.specs.declared.places.Layout.{Layout}
 use Rattle.damping.specs.Damping.{damped_of, relative_change, converged_of, InRange}
 use Rattle.damping.proofs.Bounded.{in_range}
@@ -19,18 +17,18 @@ use Rattle.wild.specs.Wild.{wild_place}
 use Rattle.update.specs.declared.Stats.{Stats}
 use Rattle.damping.specs.declared.steps.Damping.{Damping}
 use Rattle.entries.specs.declared.Entry.{Entry}
-use Rattle.causes.specs.declared.Flip.{Flip}
 use Rattle.entries.specs.declared.Entry.TheVariants.{Freed, Grounded, Singular, Wild, Stepped, Converged}
 use Rattle.trial.specs.Trial.{Outcome, repair_of, judged, step_entry, step_of}
-use Rattle.entries.specs.Entries.{damping_start, going_of, no_entry}
-use Rattle.entries.specs.declared.Going.{Going}
-use Rattle.entries.specs.declared.Going.TheVariants.{On, Over}
+use Rattle.entries.specs.Entries.{damping_start, going_of, no_entry, Going}
 use Rattle.runs.specs.Run.{then_run, run_with}
 use Rattle.solver.specs.Solve.{trials_of}
 use Rattle.promises.specs.Trials.{Point, point, trial_at, run_at, damping_after, next, after_trials, start_point, run_in, point_in}
 use Rattle.promises.specs.Statements.{SolveEachEntry, SolveEachState, SolveLastState, SolveInRange}
 use Rattle.promises.proofs.Never.{other}
 use Rattle.promises.proofs.Repairs.{step_entry_lem, ways}
+use Rattle.std.specs.Prelude.{None, Option, Some}
+use Rattle.std.proofs.Common.{Break, Continue}
+use Rattle.causes.specs.Causes.{Flip}
 
 pub unmoved : (s : List ℕ) (l : Layout) (p : Point) → after_trials s l 0 p ≡ p
 unfolding after_trials
@@ -43,7 +41,7 @@ shifted s l zero p = refl
 shifted s l (suc i) p = rw (← shifted s l i p)
 
 -- where a run goes on, it goes on with the damping after the entry
-pub on_damping : (d d' : Damping) (e : Entry) → going_of d e ≡ On d' → damping_after d e ≡ d'
+pub on_damping : (d d' : Damping) (e : Entry) → going_of d e ≡ Continue d' → damping_after d e ≡ d'
 unfolding going_of damping_after
 on_damping d d' (Freed i) h = cc
 on_damping d d' (Grounded i) h = cc
@@ -65,10 +63,10 @@ module _ (s : List ℕ) (l : Layout) where
           → ((i : ℕ) (p : Point) → i < length (run_at s l m p).entries → get_or (run_at s l m p).entries i no_entry ≡ (trial_at s l (after_trials s l i p)).entry)
           → i < length (then_run o.entry o.state g (run_with repair_of s l m)).entries
           → get_or (then_run o.entry o.state g (run_with repair_of s l m)).entries i no_entry ≡ (trial_at s l (after_trials s l i p)).entry
-      go o q (On d') e zero ih h = rw (unmoved s l p, q)
-      go o q (Over z) e zero ih h = rw (unmoved s l p, q)
-      go o q (On d') e (suc i) ih h = rw (shifted s l i p, q, on_damping p.damping d' o.entry e) (ih i (point d' o.state) (omega arith))
-      go o q (Over z) e (suc i) ih h = absurd (let y : ⊥ = omega arith in y)
+      go o q (Continue d') e zero ih h = rw (unmoved s l p, q)
+      go o q (Break z) e zero ih h = rw (unmoved s l p, q)
+      go o q (Continue d') e (suc i) ih h = rw (shifted s l i p, q, on_damping p.damping d' o.entry e) (ih i (point d' o.state) (omega arith))
+      go o q (Break z) e (suc i) ih h = absurd (let y : ⊥ = omega arith in y)
 
   -- The state after it is the one that this trial leaves.
   pub each_state : (i : ℕ) (p : Point) → (after_trials s l (suc i) p).state ≡ (trial_at s l (after_trials s l i p)).state
@@ -84,8 +82,8 @@ module _ (s : List ℕ) (l : Layout) where
       go : (o : Outcome) → trial_at s l p ≡ o → (g : Going) → going_of p.damping o.entry ≡ g
           → ((p : Point) → (run_at s l m p).state ≡ (after_trials s l (length (run_at s l m p).entries) p).state)
           → (then_run o.entry o.state g (run_with repair_of s l m)).state ≡ (after_trials s l (length (then_run o.entry o.state g (run_with repair_of s l m)).entries) p).state
-      go o q (On d') e ih = rw (shifted s l (length (run_with repair_of s l m d' o.state).entries) p, q, on_damping p.damping d' o.entry e) (ih (point d' o.state))
-      go o q (Over z) e ih = rw (shifted s l 0 p, unmoved s l (next s l p), q)
+      go o q (Continue d') e ih = rw (shifted s l (length (run_with repair_of s l m d' o.state).entries) p, q, on_damping p.damping d' o.entry e) (ih (point d' o.state))
+      go o q (Break z) e ih = rw (shifted s l 0 p, unmoved s l (next s l p), q)
 
 -- ---- the damping factor
 
@@ -104,10 +102,10 @@ judged_in o d m flip r = go (converged_of change o.accuracy m.changed m.largest 
     go true = r
     go false = in_range d.factor r d.previous change o.damping
 
-entry_in : (f : Found) (o : Options) (d : Damping) (m : Stats) (flip : Flip) → InRange d.factor → InRange (damping_after d (step_entry f o d m flip)).factor
+entry_in : (f : Option ℕ) (o : Options) (d : Damping) (m : Stats) (flip : Flip) → InRange d.factor → InRange (damping_after d (step_entry f o d m flip)).factor
 unfolding step_entry damping_after
-entry_in (At p) o d m flip r = r
-entry_in Nothing o d m flip r = judged_in o d m flip r
+entry_in (Some p) o d m flip r = r
+entry_in None o d m flip r = judged_in o d m flip r
 
 module _ (s : List ℕ) (l : Layout) where
   step_in : (d : Damping) (t : State) → InRange d.factor → (g y x : List Float) → InRange (damping_after d (step_of s l d t g y x).entry).factor

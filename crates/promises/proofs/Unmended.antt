@@ -6,15 +6,9 @@ use mathlib.Core.Bool.{Bool, true, false, cond}
 use native.Mathlib.Omega.{arith}
 use lib.ListN.{length, get_or}
 use lib.Ieee.{Float}
-use Rattle.found.specs.declared.Found.{Found}
-use Rattle.found.specs.declared.Found.TheVariants.{At, Nothing}
-use Rattle.sheet.specs.Read.{read_of}
+use Rattle.sheet.specs.Read.{read_of, Reading}
 use Rattle.layout.specs.declared.places.Layout.{Layout}
-use Rattle.sheet.specs.declared.reading.Reading.{Reading}
-use Rattle.sheet.specs.declared.reading.Reading.TheVariants.{Good, Refused}
-use Rattle.linear.specs.Factorization.{factor_of}
-use Rattle.linear.specs.declared.factorization.Factored.{Factored}
-use Rattle.linear.specs.declared.factorization.Factored.TheVariants.{Done, Stopped}
+use Rattle.linear.specs.Factorization.{factor_of, Factored}
 use Rattle.numbering.specs.Numbering.{node_numbered}
 use Rattle.assembly.specs.Assembly.{System}
 use Rattle.state.specs.State.{State}
@@ -23,11 +17,9 @@ use Rattle.damping.specs.declared.steps.Damping.{Damping}
 use Rattle.entries.specs.declared.Entry.{Entry}
 use Rattle.entries.specs.declared.Entry.TheVariants.{Freed, Grounded, Singular, Wild, Stepped, Converged}
 use Rattle.trial.specs.Trial.{Outcome, outcome, repair_of, no_repair, factored, system_of, trial_with}
-use Rattle.entries.specs.Entries.{damping_start, going_of, counted, tallied, none}
+use Rattle.entries.specs.Entries.{damping_start, going_of, counted, tallied, none, Going}
 use Rattle.entries.specs.declared.Ended.{Ended}
 use Rattle.entries.specs.declared.Ended.TheVariants.{Balanced, Failed, Strayed, Limit}
-use Rattle.entries.specs.declared.Going.{Going}
-use Rattle.entries.specs.declared.Going.TheVariants.{On, Over}
 use Rattle.entries.specs.declared.Tally.{Tally}
 use Rattle.runs.specs.Run.{then_run, run_with, finish}
 use Rattle.answers.specs.Answers.{Lent, too_short, failed_of}
@@ -37,19 +29,21 @@ use Rattle.promises.specs.Repairs.{stop_node, stop_of, mends}
 use Rattle.promises.specs.Statements.{UnmendedIsBare, UnmarkedIsBare}
 use Rattle.promises.proofs.Never.{other, never}
 use Rattle.promises.proofs.Counts.{solve_counts}
+use Rattle.std.specs.Prelude.{Err, None, Ok, Option, Some}
+use Rattle.std.proofs.Common.{Break, Continue}
 
 -- ---- one trial
 
 module _ (s : List ℕ) (l : Layout) (t : State) (v : ℕ) where
-  marked_same : (b : Bool) → get_or t.grounded v false ≡ b → regulator_at s l t.statuses v ≡ Nothing → mends (repair_of s l t v).entry ≡ false → repair_of s l t v ≡ no_repair s l t v
+  marked_same : (b : Bool) → get_or t.grounded v false ≡ b → regulator_at s l t.statuses v ≡ None → mends (repair_of s l t v).entry ≡ false → repair_of s l t v ≡ no_repair s l t v
   unfolding repair_of repair_at free ground_node no_repair mends
   marked_same true g r = rw (r, g) (λ e. refl)
   marked_same false g r = rw (r, g) (λ e. never (sym e))
 
-  found_same : (f : Found) → regulator_at s l t.statuses v ≡ f → mends (repair_of s l t v).entry ≡ false → repair_of s l t v ≡ no_repair s l t v
+  found_same : (f : Option ℕ) → regulator_at s l t.statuses v ≡ f → mends (repair_of s l t v).entry ≡ false → repair_of s l t v ≡ no_repair s l t v
   unfolding repair_of repair_at free mends
-  found_same (At j) r = rw r (λ e. never (sym e))
-  found_same Nothing r = marked_same (get_or t.grounded v false) refl r
+  found_same (Some j) r = rw r (λ e. never (sym e))
+  found_same None r = marked_same (get_or t.grounded v false) refl r
 
   repair_same : mends (repair_of s l t v).entry ≡ false → repair_of s l t v ≡ no_repair s l t v
   repair_same = found_same (regulator_at s l t.statuses v) refl
@@ -57,8 +51,8 @@ module _ (s : List ℕ) (l : Layout) (t : State) (v : ℕ) where
 module _ (s : List ℕ) (l : Layout) (d : Damping) (t : State) where
   factored_same : (a : System) (w : List Float) (f : Factored) → mends (factored repair_of s l d t a w f).entry ≡ false → factored repair_of s l d t a w f ≡ factored no_repair s l d t a w f
   unfolding factored
-  factored_same a w (Stopped u) e = repair_same s l t (node_numbered s l l.nodes u.0) e
-  factored_same a w Done e = refl
+  factored_same a w (Err u) e = repair_same s l t (node_numbered s l l.nodes u.0) e
+  factored_same a w (Ok tt) e = refl
 
   trial_same : mends (trial_with repair_of s l d t).entry ≡ false → trial_with repair_of s l d t ≡ trial_with no_repair s l d t
   unfolding trial_with
@@ -91,10 +85,10 @@ run_same s l (suc m) d t h =
         → (mends o.entry ≡ false → o ≡ o')
         → unmended (then_run o.entry o.state g (run_with repair_of s l m)).entries ≡ true
         → then_run o.entry o.state g (run_with repair_of s l m) ≡ then_run o'.entry o'.state (going_of d o'.entry) (run_with no_repair s l m)
-    go o o' (On d') e ih same h =
+    go o o' (Continue d') e ih same h =
         let f = first_unmended o.entry (run_with repair_of s l m d' o.state).entries h in
         rw (← same f.0, e, ih d' o.state f.1)
-    go o o' (Over z) e ih same h =
+    go o o' (Break z) e ih same h =
         let f = first_unmended o.entry [] h in
         rw (← same f.0, e)
 
@@ -160,15 +154,15 @@ module _ (s : List ℕ) (w : Lent) where
       (sym (told_grounded s l (trials_of s) w r.state r.ran.tally r.bytes r.ran.ended) ∙ g)) in
       rw p
 
-  short_same : (l : Layout) (f : Found) → (after_short repair_of s l w f).answer.freed ≡ 0 → (after_short repair_of s l w f).answer.grounded ≡ 0 → after_short repair_of s l w f ≡ after_short no_repair s l w f
+  short_same : (l : Layout) (f : Option ℕ) → (after_short repair_of s l w f).answer.freed ≡ 0 → (after_short repair_of s l w f).answer.grounded ≡ 0 → after_short repair_of s l w f ≡ after_short no_repair s l w f
   unfolding after_short
-  short_same l (At p) f g = refl
-  short_same l Nothing f g = solved_same l f g
+  short_same l (Some p) f g = refl
+  short_same l None f g = solved_same l f g
 
   read_same : (r : Reading) → (after_read repair_of s w r).answer.freed ≡ 0 → (after_read repair_of s w r).answer.grounded ≡ 0 → after_read repair_of s w r ≡ after_read no_repair s w r
   unfolding after_read
-  read_same (Refused r) f g = refl
-  read_same (Good l) f g =
+  read_same (Err r) f g = refl
+  read_same (Ok l) f g =
       short_same l (too_short l (trials_of s) (length w.heads) (length w.demands) (length w.flows) (length w.statuses) (length w.entries) (length w.scratch)) f g
 
 -- Demand 3: an answer that counts no freed valve and no grounded node is that of the solver that repairs nothing, with the same results and the same record.
@@ -182,13 +176,13 @@ unmarked_is_bare s w f g = unmended_is_bare s w ((solve_counts s w).freed ∙ f)
 
 -- ---- the solver that repairs nothing
 
-bare_stopped : (s : List ℕ) (l : Layout) (d : Damping) (t : State) (v : ℕ) (a : System) (w : List Float) (f : Factored) → stop_node s l f ≡ At v → factored no_repair s l d t a w f ≡ outcome (Singular (record { 0 = v })) t
+bare_stopped : (s : List ℕ) (l : Layout) (d : Damping) (t : State) (v : ℕ) (a : System) (w : List Float) (f : Factored) → stop_node s l f ≡ Some v → factored no_repair s l d t a w f ≡ outcome (Singular (record { 0 = v })) t
 unfolding factored no_repair stop_node
-bare_stopped s l d t v a w (Stopped u) e = let p : node_numbered s l l.nodes u.0 ≡ v = cc in rw p
-bare_stopped s l d t v a w Done e = other (cc)
+bare_stopped s l d t v a w (Err u) e = let p : node_numbered s l l.nodes u.0 ≡ v = cc in rw p
+bare_stopped s l d t v a w (Ok tt) e = other (cc)
 
 -- It stops at its first failed factorization: a run of it that comes to one has that entry and no more.
-pub bare_stops : (s : List ℕ) (l : Layout) (m : ℕ) (d : Damping) (t : State) (v : ℕ) → stop_of s l t ≡ At v
+pub bare_stops : (s : List ℕ) (l : Layout) (m : ℕ) (d : Damping) (t : State) (v : ℕ) → stop_of s l t ≡ Some v
     → run_with no_repair s l (suc m) d t ≡ record { entries = Singular (record { 0 = v }) ∷ []; ended = Failed (record { 0 = v }); state = t }
 unfolding run_with then_run trial_with stop_of going_of
 bare_stops s l m d t v e =

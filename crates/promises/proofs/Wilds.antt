@@ -9,8 +9,6 @@ use Rattle.records.specs.Records.{options_of}
 use Rattle.records.specs.declared.records.Options.{Options}
 use Rattle.layout.specs.declared.places.Layout.{Layout}
 use Rattle.found.specs.Searches.{or_else, first_from, first_of, First}
-use Rattle.found.specs.declared.Found.{Found}
-use Rattle.found.specs.declared.Found.TheVariants.{At, Nothing}
 use Rattle.found.proofs.Firsts.{first_is, first_none}
 use Rattle.wild.specs.Wild.{wild_from, first_wild, past, wild_drawn, wild_place}
 use Rattle.damping.specs.Damping.{converged_of, relative_change}
@@ -20,7 +18,6 @@ use Rattle.tanks.specs.Tanks.{tank_links_of}
 use Rattle.drawn.specs.Drawn.{draws, drawn_of}
 use Rattle.update.specs.Update.{basis, update_of}
 use Rattle.update.specs.declared.Stats.{Stats}
-use Rattle.causes.specs.declared.Flip.{Flip}
 use Rattle.entries.specs.declared.Entry.TheVariants.{Wild, Stepped, Converged}
 use Rattle.trial.specs.Trial.{judged, step_entry, step_of, trial_of}
 use Rattle.solver.specs.Solve.{solve_of}
@@ -31,6 +28,8 @@ use Rattle.promises.specs.Statements.{SevenFirstWild}
 use Rattle.promises.proofs.Never.{other}
 use Rattle.promises.proofs.Repairs.{ways}
 use Rattle.promises.proofs.Causes.{last_is, last_leaves, seven_wild}
+use Rattle.std.specs.Prelude.{None, Option, Some}
+use Rattle.causes.specs.Causes.{Flip}
 
 -- ---- a column
 
@@ -43,22 +42,22 @@ wild_first : (x : List Float) (k : ℕ) → first_wild x k ≡ first_of (is_wild
 unfolding first_wild first_of
 wild_first x k = wild_from_lem x k 0
 
-first_wild_lem : (x : List Float) (k i : ℕ) → first_wild x k ≡ At i → First (is_wild x) k i
+first_wild_lem : (x : List Float) (k i : ℕ) → first_wild x k ≡ Some i → First (is_wild x) k i
 first_wild_lem x k i e = first_is (is_wild x) k i (sym (wild_first x k) ∙ e)
 
-none_wild : (x : List Float) (k : ℕ) → first_wild x k ≡ Nothing → (i : ℕ) → i < k → is_wild x i ≡ false
+none_wild : (x : List Float) (k : ℕ) → first_wild x k ≡ None → (i : ℕ) → i < k → is_wild x i ≡ false
 none_wild x k e = first_none (is_wild x) k (sym (wild_first x k) ∙ e)
 
 -- ---- the three columns
 
 module _ (l : Layout) (t : State) where
-  wild_at : l.nodes ≤ 64 → l.links ≤ 128 → (p : ℕ) → wild_place l t.heads t.flows t.drawn ≡ At p → WildAt l t p
+  wild_at : l.nodes ≤ 64 → l.links ≤ 128 → (p : ℕ) → wild_place l t.heads t.flows t.drawn ≡ Some p → WildAt l t p
   unfolding wild_place wild_drawn
   wild_at few some p e = go (first_wild t.heads l.nodes) refl (first_wild t.flows l.links) refl l.pressures refl (first_wild t.drawn l.nodes) refl e
     where
-      go : (f : Found) → first_wild t.heads l.nodes ≡ f → (g : Found) → first_wild t.flows l.links ≡ g → (b : Bool) → l.pressures ≡ b → (k : Found) → first_wild t.drawn l.nodes ≡ k
-          → or_else f (or_else (past 64 g) (cond b (past 256 k) Nothing)) ≡ At p → WildAt l t p
-      go (At i) u g v b c k d z =
+      go : (f : Option ℕ) → first_wild t.heads l.nodes ≡ f → (g : Option ℕ) → first_wild t.flows l.links ≡ g → (b : Bool) → l.pressures ≡ b → (k : Option ℕ) → first_wild t.drawn l.nodes ≡ k
+          → or_else f (or_else (past 64 g) (cond b (past 256 k) None)) ≡ Some p → WildAt l t p
+      go (Some i) u g v b c k d z =
           let same : i ≡ p = cc in
           let is = first_wild_lem t.heads l.nodes i u in
           let low : p < 64 = omega (arith, same, is.below, few) in
@@ -69,7 +68,7 @@ module _ (l : Layout) (t : State) where
             heads_before = λ a i y. absurd (omega (arith, a, low));
             flows_before = λ a i y. absurd (omega (arith, a, low));
           }
-      go Nothing u (At j) v b c k d z =
+      go None u (Some j) v b c k d z =
           let same : 64 + j ≡ p = cc in
           let is = first_wild_lem t.flows l.links j v in
           let from : j ≡ p - 64 = omega (arith, same) in
@@ -81,7 +80,7 @@ module _ (l : Layout) (t : State) where
             heads_before = λ a. none_wild t.heads l.nodes u;
             flows_before = λ a i y. absurd (omega (arith, a, low));
           }
-      go Nothing u Nothing v true c (At i) d z =
+      go None u None v true c (Some i) d z =
           let same : 256 + i ≡ p = cc in
           let from : i ≡ p - 256 = omega (arith, same) in
           record {
@@ -91,20 +90,20 @@ module _ (l : Layout) (t : State) where
             heads_before = λ a. none_wild t.heads l.nodes u;
             flows_before = λ a. none_wild t.flows l.links v;
           }
-      go Nothing u Nothing v true c Nothing d z = other (cc)
-      go Nothing u Nothing v false c k d z = other (cc)
+      go None u None v true c None d z = other (cc)
+      go None u None v false c k d z = other (cc)
 
-  pub none_is_wild : wild_place l t.heads t.flows t.drawn ≡ Nothing → NoneWild l t
+  pub none_is_wild : wild_place l t.heads t.flows t.drawn ≡ None → NoneWild l t
   unfolding wild_place wild_drawn
   none_is_wild e = go (first_wild t.heads l.nodes) refl (first_wild t.flows l.links) refl l.pressures refl (first_wild t.drawn l.nodes) refl e
     where
-      go : (f : Found) → first_wild t.heads l.nodes ≡ f → (g : Found) → first_wild t.flows l.links ≡ g → (b : Bool) → l.pressures ≡ b → (k : Found) → first_wild t.drawn l.nodes ≡ k
-          → or_else f (or_else (past 64 g) (cond b (past 256 k) Nothing)) ≡ Nothing → NoneWild l t
-      go (At i) u g v b c k d z = other (cc)
-      go Nothing u (At j) v b c k d z = other (cc)
-      go Nothing u Nothing v true c (At i) d z = other (cc)
-      go Nothing u Nothing v true c Nothing d z = record { heads = none_wild t.heads l.nodes u; flows = none_wild t.flows l.links v; drawn = λ y. none_wild t.drawn l.nodes d }
-      go Nothing u Nothing v false c k d z = record { heads = none_wild t.heads l.nodes u; flows = none_wild t.flows l.links v; drawn = λ y. other (cc) }
+      go : (f : Option ℕ) → first_wild t.heads l.nodes ≡ f → (g : Option ℕ) → first_wild t.flows l.links ≡ g → (b : Bool) → l.pressures ≡ b → (k : Option ℕ) → first_wild t.drawn l.nodes ≡ k
+          → or_else f (or_else (past 64 g) (cond b (past 256 k) None)) ≡ None → NoneWild l t
+      go (Some i) u g v b c k d z = other (cc)
+      go None u (Some j) v b c k d z = other (cc)
+      go None u None v true c (Some i) d z = other (cc)
+      go None u None v true c None d z = record { heads = none_wild t.heads l.nodes u; flows = none_wild t.flows l.links v; drawn = λ y. none_wild t.drawn l.nodes d }
+      go None u None v false c k d z = record { heads = none_wild t.heads l.nodes u; flows = none_wild t.flows l.links v; drawn = λ y. other (cc) }
 
 -- ---- a trial
 
@@ -116,17 +115,17 @@ judged_other o d m flip p = go (converged_of (relative_change m.moved m.total o.
     go true x e = other (cc)
     go false x e = other (cc)
 
-entry_wild : (f : Found) (o : Options) (d : Damping) (m : Stats) (flip : Flip) (p : ℕ) → step_entry f o d m flip ≡ Wild p → f ≡ At p
+entry_wild : (f : Option ℕ) (o : Options) (d : Damping) (m : Stats) (flip : Flip) (p : ℕ) → step_entry f o d m flip ≡ Wild p → f ≡ Some p
 unfolding step_entry
-entry_wild (At q) o d m flip p e = cc
-entry_wild Nothing o d m flip p e = absurd (judged_other o d m flip p e)
+entry_wild (Some q) o d m flip p e = cc
+entry_wild None o d m flip p e = absurd (judged_other o d m flip p e)
 
 -- an NF entry names what is wild first in the columns that its trial's step leaves
 trial_wild : (s : List ℕ) (l : Layout) (d : Damping) (t : State) (p : ℕ) → (trial_of s l d t).entry ≡ Wild p
-    → wild_place l (trial_of s l d t).state.heads (trial_of s l d t).state.flows (trial_of s l d t).state.drawn ≡ At p
+    → wild_place l (trial_of s l d t).state.heads (trial_of s l d t).state.flows (trial_of s l d t).state.drawn ≡ Some p
 unfolding step_of
 trial_wild s l d t p =
-    ways s l d t (λ o. o.entry ≡ Wild p → wild_place l o.state.heads o.state.flows o.state.drawn ≡ At p)
+    ways s l d t (λ o. o.entry ≡ Wild p → wild_place l o.state.heads o.state.flows o.state.drawn ≡ Some p)
     (λ j w e. other (cc)) (λ v w e. other (cc)) (λ v w e. other (cc))
     (λ g y x e.
     let h = solved_heads s l x l.nodes t.heads in

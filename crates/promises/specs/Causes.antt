@@ -1,11 +1,9 @@
 -- Why each number is told, and at which place. Definitions only.
-use Rattle.std.specs.Prelude.{ℕ, suc, ◌-◌, ◌≤◌, ◌<◌, ◌≡◌, List, length, get_or}
+use Rattle.std.specs.Prelude.{ℕ, suc, ◌-◌, ◌≤◌, ◌<◌, ◌≡◌, List, length, get_or, Err, Ok, Some}
 use Rattle.refusals.specs.Refusals.{number_of, place_of}
 use Rattle.refusals.specs.declared.refusals.Refusal.{Refusal}
 use Rattle.sheet.specs.Read.{read_of}
-use Rattle.found.specs.declared.Found.TheVariants.{At}
 use Rattle.layout.specs.declared.places.Layout.{Layout}
-use Rattle.sheet.specs.declared.reading.Reading.TheVariants.{Good, Refused}
 use Rattle.entries.specs.Entries.{no_entry}
 use Rattle.entries.specs.declared.Entry.{Entry}
 use Rattle.entries.specs.declared.Entry.TheVariants.{Freed, Grounded, Singular, Wild, Stepped, Converged}
@@ -32,8 +30,8 @@ end_place trials Limit = trials
 
 -- a number and a place have a cause: the sheet (1 to 4), a buffer that is too short (5), or how the run ended (0, 6, 7, 8)
 pub data Cause (s : List ℕ) (b : Lent) : ℕ → ℕ → Type 0 where
-  sheet : (r : Refusal) → read_of s ≡ Refused r → Cause s b (number_of r) (place_of r)
-  short : (l : Layout) (place : ℕ) → read_of s ≡ Good l → short_in s l b ≡ At place → Cause s b 5 place
+  sheet : (r : Refusal) → read_of s ≡ Err r → Cause s b (number_of r) (place_of r)
+  short : (l : Layout) (place : ℕ) → read_of s ≡ Ok l → short_in s l b ≡ Some place → Cause s b 5 place
   ended : (l : Layout) → Runs s b l → Cause s b (end_number (run_in s l).ended) (end_place (trials_of s) (run_in s l).ended)
 
 -- how a run ends whose last entry this is

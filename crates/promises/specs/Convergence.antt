@@ -1,12 +1,11 @@
 -- What 0 says of the last trial's step. Definitions only.
-use Rattle.std.specs.Prelude.{ℕ, ◌<◌, ◌≡◌, true, false, List, get_or}
+use Rattle.std.specs.Prelude.{ℕ, ◌<◌, ◌≡◌, true, false, List, get_or, None}
 use Rattle.std.specs.Float.Ieee.{lt, eq}
 use Rattle.constants.specs.Arithmetic.{times}
 use Rattle.constants.specs.Constants as constant
 use Rattle.records.specs.Records.{options_of}
 use Rattle.records.specs.declared.records.Options.{Options}
 use Rattle.layout.specs.declared.places.Layout.{Layout}
-use Rattle.found.specs.declared.Found.TheVariants.{Nothing}
 use Rattle.codes.specs.Codes.{status_of}
 use Rattle.damping.specs.Damping.{relative_change}
 use Rattle.damping.specs.Units.{factor_of}
@@ -40,7 +39,7 @@ pub record Converges (o : Options) (m : Stats) : Type 0 where
 
 -- a trial from here has a matrix that is factored, its step converges, and its flow update changes no link's status in a way that counts
 pub record TrialConverges (s : List ℕ) (l : Layout) (p : Point) : Type 0 where
-  pub factored : stop_of s l p.state ≡ Nothing
+  pub factored : stop_of s l p.state ≡ None
   pub converges : Converges (options_of s) (stats_of s l p.damping p.state)
   pub links : (j : ℕ) → j < l.links
       → counts (status_of (get_or p.state.statuses j 0)) (change_of s l (basis_of s l p.damping p.state) p.state.flows p.state.statuses j) ≡ false

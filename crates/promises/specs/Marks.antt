@@ -20,7 +20,7 @@ pub record Counted (o : Solved) : Type 0 where
 
 -- the ith entry's four bytes are the mark and the number of this entry
 pub record Shown (bytes : List ℕ) (i : ℕ) (e : Entry) : Type 0 where
-  pub first : get_or bytes (4 * i) 0 ≡ (mark_of e).0
-  pub second : get_or bytes (4 * i + 1) 0 ≡ (mark_of e).1
-  pub low : get_or bytes (4 * i + 2) 0 ≡ (mark_of e).2 % 256
-  pub high : get_or bytes (4 * i + 3) 0 ≡ (mark_of e).2 / 256 % 256
+  pub first : get_or bytes (4 * i) 0 ≡ (mark_of e).first
+  pub second : get_or bytes (4 * i + 1) 0 ≡ (mark_of e).second
+  pub low : get_or bytes (4 * i + 2) 0 ≡ (mark_of e).number % 256
+  pub high : get_or bytes (4 * i + 3) 0 ≡ (mark_of e).number / 256 % 256

@@ -1,11 +1,7 @@
 -- What the promises about repairs speak of: where a trial's factorization stops, the regulator that is freed, and entries that fail. Definitions only.
-use Rattle.std.specs.Prelude.{ℕ, ◌<◌, ◌≡◌, Bool, true, false, List, get_or, set}
+use Rattle.std.specs.Prelude.{ℕ, ◌<◌, ◌≡◌, Bool, true, false, List, get_or, set, Err, None, Ok, Option, Some}
 use Rattle.layout.specs.declared.places.Layout.{Layout}
-use Rattle.found.specs.declared.Found.{Found}
-use Rattle.found.specs.declared.Found.TheVariants.{At, Nothing}
-use Rattle.linear.specs.Factorization.{factor_of}
-use Rattle.linear.specs.declared.factorization.Factored.{Factored}
-use Rattle.linear.specs.declared.factorization.Factored.TheVariants.{Done, Stopped}
+use Rattle.linear.specs.Factorization.{factor_of, Factored}
 use Rattle.numbering.specs.Numbering.{node_numbered}
 use Rattle.state.specs.State.{State, state}
 use Rattle.repair.specs.Repair.{regulates_at}
@@ -14,12 +10,12 @@ use Rattle.entries.specs.declared.Entry.TheVariants.{Freed, Grounded, Singular, 
 use Rattle.trial.specs.Trial.{system_of}
 
 -- the node of the unknown at which a factorization stopped
-unfoldable pub stop_node : List ℕ → Layout → Factored → Found
-stop_node s l (Stopped u) = At (node_numbered s l l.nodes u.0)
-stop_node s l Done = Nothing
+unfoldable pub stop_node : List ℕ → Layout → Factored → Option ℕ
+stop_node s l (Err u) = Some (node_numbered s l l.nodes u.0)
+stop_node s l (Ok tt) = None
 
 -- the node at which the factorization of a state's system stops
-unfoldable pub stop_of : List ℕ → Layout → State → Found
+unfoldable pub stop_of : List ℕ → Layout → State → Option ℕ
 unfolding stop_node
 stop_of s l t = stop_node s l (factor_of l.unknowns (system_of s l t).matrix).answer
 
@@ -36,18 +32,18 @@ pub record NoneAt (s : List ℕ) (l : Layout) (codes : List ℕ) (node : ℕ) : 
 -- a trial of the state frees link j: its factorization stops at a node, and link j is the lowest-numbered Active PRV or PSV touching it
 pub record Frees (s : List ℕ) (l : Layout) (t : State) (j : ℕ) : Type 0 where
   pub node : ℕ
-  pub stops : stop_of s l t ≡ At node
+  pub stops : stop_of s l t ≡ Some node
   pub lowest : Lowest s l t.statuses node j
 
 -- it grounds a node: its factorization stops there, no Active PRV or PSV touches it, and it is not grounded yet
 pub record Grounds (s : List ℕ) (l : Layout) (t : State) (node : ℕ) : Type 0 where
-  pub stops : stop_of s l t ≡ At node
+  pub stops : stop_of s l t ≡ Some node
   pub none : NoneAt s l t.statuses node
   pub yet : get_or t.grounded node false ≡ false
 
 -- it is singular at a node: its factorization stops there, no Active PRV or PSV touches it, and it is grounded already
 pub record Refuses (s : List ℕ) (l : Layout) (t : State) (node : ℕ) : Type 0 where
-  pub stops : stop_of s l t ≡ At node
+  pub stops : stop_of s l t ≡ Some node
   pub none : NoneAt s l t.statuses node
   pub already : get_or t.grounded node false ≡ true
 

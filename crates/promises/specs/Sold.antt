@@ -1,5 +1,5 @@
 -- What a verdict means: when an hour may be sold, and why it may not. Definitions only.
-use Rattle.std.specs.Prelude.{ℕ, ◌≤◌, ◌<◌, ◌≡◌, true, false, List, get_or, Float}
+use Rattle.std.specs.Prelude.{ℕ, ◌≤◌, ◌<◌, ◌≡◌, true, false, List, get_or, Float, Ok}
 use Rattle.std.specs.Float.{nan}
 use Rattle.std.specs.Float.Ieee.{lt, le}
 use Rattle.found.specs.Searches.{First}
@@ -15,7 +15,6 @@ use Rattle.excess.specs.Excess.{imbalance_of, excess_of}
 use Rattle.coefficient.specs.declared.Coefficients.{Coefficients}
 use Rattle.link_rows.specs.LinkRows.{View, view, coefficients_at}
 use Rattle.sheet.specs.Read.{read_of}
-use Rattle.sheet.specs.declared.reading.Reading.TheVariants.{Good}
 use Rattle.entries.specs.Entries.{no_entry}
 use Rattle.entries.specs.declared.Entry.TheVariants.{Freed, Grounded}
 use Rattle.links.specs.declared.LinkIndex.{LinkIndex}
@@ -56,7 +55,7 @@ pressure_at s l b i = minus (get_or b.heads i nan) (node_of s l i).elevation
 
 -- 1: the sheet is read so, and its solve's number is 0
 pub record Solves (s : List ℕ) (l : Layout) (o : Sale) : Type 0 where
-  pub read : read_of s ≡ Good l
+  pub read : read_of s ≡ Ok l
   pub number : o.answer.number ≡ 0
 
 -- 2: no trial freed a valve or grounded a node, and what came out is what the solver gives that repairs nothing

@@ -1,5 +1,5 @@
 -- What is promised of every trial, solve and verdict, one closed statement each, by the definitions of the other files; its proof bears its name in small letters. Definitions only.
-use Rattle.std.specs.Prelude.{ℕ, suc, ◌+◌, ◌-◌, ◌≤◌, ◌<◌, ◌≡◌, ◌↔◌, true, false, List, T, length, get_or, drop}
+use Rattle.std.specs.Prelude.{ℕ, suc, ◌+◌, ◌-◌, ◌≤◌, ◌<◌, ◌≡◌, ◌↔◌, true, false, List, T, length, get_or, drop, None, Ok}
 use Rattle.std.specs.Float.Ieee.{le}
 use Rattle.constants.specs.Constants as constant
 use Rattle.layout.specs.declared.places.Layout.{Layout}
@@ -9,8 +9,6 @@ use Rattle.links.specs.declared.LinkIndex.{LinkIndex}
 use Rattle.fields.specs.Fields.{base_bounds}
 use Rattle.accepted.specs.Accepted.{cause_of}
 use Rattle.sheet.specs.Read.{read_of}
-use Rattle.sheet.specs.declared.reading.Reading.TheVariants.{Good}
-use Rattle.causes.specs.declared.Flip.{Flip}
 use Rattle.entries.specs.Entries.{no_entry}
 use Rattle.entries.specs.declared.Entry.TheVariants.{Freed, Grounded, Singular, Wild, Converged}
 use Rattle.marks.specs.Marks.{mark_of}
@@ -20,7 +18,6 @@ use Rattle.trial.specs.Trial.{outcome, no_repair, trial_of}
 use Rattle.answers.specs.Answers.{Lent, Solved}
 use Rattle.answers.specs.declared.Answer.{Answer}
 use Rattle.solver.specs.Solve.{trials_of, start_of, solve_with, solve_of}
-use Rattle.found.specs.declared.Found.TheVariants.{Nothing}
 use Rattle.repairs_shown.specs.Shown.{repair_shown}
 use Rattle.tolerance.specs.declared.Limits.{Limits}
 use Rattle.sale.specs.Sale.{sale_of}
@@ -37,6 +34,7 @@ use Rattle.promises.specs.Convergence.{SolveConverges}
 use Rattle.promises.specs.Wilds.{WildAt}
 use Rattle.promises.specs.Sold.{Offered, June, Why}
 use Rattle.promises.specs.Grounding.{Carries, Entered, GnBefore, SixShown}
+use Rattle.causes.specs.Causes.{Flip}
 
 -- ---- demand 1: every sheet gets exactly one answer
 
@@ -75,7 +73,7 @@ PlaceOfSheet = (s : List ℕ) (b : Lent) → 1 ≤ (solve_of s b).answer.number 
 
 -- 5: the sheet is read, the buffer at the place is too short for it, and each lower one is long enough
 abbrev pub PlaceOfBuffer : Type 0
-PlaceOfBuffer = (s : List ℕ) (b : Lent) → (solve_of s b).answer.number ≡ 5 → (l : Layout) × ((read_of s ≡ Good l) × ShortAt l (trials_of s) b (solve_of s b).answer.place)
+PlaceOfBuffer = (s : List ℕ) (b : Lent) → (solve_of s b).answer.number ≡ 5 → (l : Layout) × ((read_of s ≡ Ok l) × ShortAt l (trials_of s) b (solve_of s b).answer.place)
 
 -- a solve that is not refused for its sheet or its buffers runs a trial, and its number and place are told by its last entry
 abbrev pub RunsATrial : Type 0
@@ -169,7 +167,7 @@ EntryShown =
 
 abbrev pub NumberShown : Type 0
 NumberShown =
-    (s : List ℕ) (b : Lent) (l : Layout) → Runs s b l → (i : ℕ) → i < length (run_in s l).entries → number_at (solve_of s b).lent.entries i ≡ (mark_of (get_or (run_in s l).entries i no_entry)).2
+    (s : List ℕ) (b : Lent) (l : Layout) → Runs s b l → (i : ℕ) → i < length (run_in s l).entries → number_at (solve_of s b).lent.entries i ≡ (mark_of (get_or (run_in s l).entries i no_entry)).number
 
 -- an entry marked VF is that of a trial that freed a valve, one marked GN that of a trial that grounded a node
 abbrev pub VfFreed : Type 0
@@ -194,19 +192,19 @@ UnmarkedIsBare =
 
 -- and one whose record is found to show no repair
 abbrev pub NoneShownIsBare : Type 0
-NoneShownIsBare = (s : List ℕ) (b : Lent) → repair_shown (solve_of s b).lent.entries (solve_of s b).answer.trials ≡ Nothing → solve_of s b ≡ solve_with no_repair s b
+NoneShownIsBare = (s : List ℕ) (b : Lent) → repair_shown (solve_of s b).lent.entries (solve_of s b).answer.trials ≡ None → solve_of s b ≡ solve_with no_repair s b
 
 -- ---- demand 3: repairs end
 
 -- with U junctions in service and V regulators Active before trial i, no more than V + U + 1 trials fail one after the other from it on
 abbrev pub SolveRepairsEnd : Type 0
 SolveRepairsEnd =
-    (s : List ℕ) (l : Layout) → read_of s ≡ Good l → (i : ℕ) → failing (drop i (run_in s l).entries) ≤ active s l (point_in s l i).state + serving s l l.nodes + 1
+    (s : List ℕ) (l : Layout) → read_of s ≡ Ok l → (i : ℕ) → failing (drop i (run_in s l).entries) ≤ active s l (point_in s l i).state + serving s l l.nodes + 1
 
 -- no two entries ground one node
 abbrev pub SolveGroundedOnce : Type 0
 SolveGroundedOnce =
-    (s : List ℕ) (l : Layout) → read_of s ≡ Good l → (v : NodeIndex) (i j : ℕ) → i < j → j < length (run_in s l).entries
+    (s : List ℕ) (l : Layout) → read_of s ≡ Ok l → (v : NodeIndex) (i j : ℕ) → i < j → j < length (run_in s l).entries
     → get_or (run_in s l).entries i no_entry ≡ Grounded v → get_or (run_in s l).entries j no_entry ≡ Grounded v → ⊥
 
 -- the same by the bytes of the record: no more than V + U + 1 entries with the letters VF, GN or SG stand one behind the other from the ith on
@@ -229,7 +227,7 @@ UnmarkedAtStart = (s : List ℕ) (l : Layout) (v : ℕ) → get_or (start_of s l
 
 -- before each of its trials, and after its last, a node carries the grounded mark if and only if an earlier entry is its GN
 abbrev pub MarkHasEntry : Type 0
-MarkHasEntry = (s : List ℕ) (l : Layout) → read_of s ≡ Good l → (i v : ℕ) → i ≤ length (run_in s l).entries → Carries s l i v ↔ Entered s l i v
+MarkHasEntry = (s : List ℕ) (l : Layout) → read_of s ≡ Ok l → (i v : ℕ) → i ≤ length (run_in s l).entries → Carries s l i v ↔ Entered s l i v
 
 -- that entry stands in the record that is handed back
 abbrev pub MarkIsShown : Type 0
@@ -255,7 +253,7 @@ SoldMeansSold = (s : List ℕ) (limits : Limits) (b : Lent) → (sale_of s limit
 
 -- no solve in which a regulator was freed, a node was grounded or a head hangs on nothing is sold
 abbrev pub JuneNeverSold : Type 0
-JuneNeverSold = (s : List ℕ) (limits : Limits) (b : Lent) (l : Layout) → read_of s ≡ Good l → June s l (sale_of s limits b) → (sale_of s limits b).verdict.number ≡ 0 → ⊥
+JuneNeverSold = (s : List ℕ) (limits : Limits) (b : Lent) (l : Layout) → read_of s ≡ Ok l → June s l (sale_of s limits b) → (sale_of s limits b).verdict.number ≡ 0 → ⊥
 
 -- each verdict has its cause, at its place, and no line before it holds; it is 8 at most
 abbrev pub UnsoldWhy : Type 0

@@ -6,10 +6,10 @@ use mathlib.Core.List.{List, [], ◌∷◌}
 use native.Mathlib.Omega.{arith}
 use lib.ListN.{get_or}
 use Rattle.found.specs.Searches.{first_from, first_of}
-use Rattle.found.specs.declared.Found.TheVariants.{At, Nothing}
 use Rattle.reach.specs.Reach.{EndsBelow, marks, passed, followed, follows, swept, stirred, sweeps, lacks}
 use Rattle.reach.specs.Way.{Way}
 use Rattle.reach.proofs.Ways.{joined}
+use Rattle.std.specs.Prelude.{None, Some}
 
 -- four nodes, 0 held; links from 2 to 3, which does not conduct, from 1 to 2, and from 1 to 0
 abbrev starts : List ℕ
@@ -39,7 +39,7 @@ unfolding marks passed followed follows swept stirred
 ends_early = (refl, refl)
 
 -- node 3 is not reached
-third : (first_of (lacks (false ∷ true ∷ true ∷ true ∷ []) (true ∷ true ∷ true ∷ false ∷ [])) 4 ≡ At 3) × (first_of (lacks (false ∷ true ∷ true ∷ false ∷ []) (true ∷ true ∷ true ∷ false ∷ [])) 4 ≡ Nothing)
+third : (first_of (lacks (false ∷ true ∷ true ∷ true ∷ []) (true ∷ true ∷ true ∷ false ∷ [])) 4 ≡ Some 3) × (first_of (lacks (false ∷ true ∷ true ∷ false ∷ []) (true ∷ true ∷ true ∷ false ∷ [])) 4 ≡ None)
 unfolding lacks first_from first_of
 third = (refl, refl)
 

@@ -5,12 +5,11 @@ use mathlib.Core.List.{List}
 use mathlib.Core.Bool.{Bool, true, false, not, ◌&&◌, true≢false, false≢true}
 use lib.ListN.{get_or}
 use Rattle.found.specs.Searches.{first_of}
-use Rattle.found.specs.declared.Found.{Found}
-use Rattle.found.specs.declared.Found.TheVariants.{At, Nothing}
 use Rattle.found.proofs.Firsts.{first_is, first_none}
 use Rattle.reach.specs.Reach.{lacks}
 use Rattle.reach.specs.Way.{Joined, Cut}
 use Rattle.reach.specs.Way.Cut.{cut_off, whole}
+use Rattle.std.specs.Prelude.{None, Option, Some}
 
 and_not : (x y : Bool) → (x && not y) ≡ true → (x ≡ true) × (y ≡ false)
 and_not false y e = absurd (false≢true e)
@@ -33,12 +32,12 @@ module _ (needs reached : List Bool) where
   reached_at h f e = not_and_not (get_or needs h false) (get_or reached h false) f e
 
   module _ (starts ends : List ℕ) (joins : List Bool) (k n : ℕ) (held : List Bool) (marks-mean : Joined starts ends joins k n held reached) where
-    cut_of : (u : Found) → first_of (lacks needs reached) n ≡ u → Cut starts ends joins k n held needs u
-    cut_of (At i) e =
+    cut_of : (u : Option ℕ) → first_of (lacks needs reached) n ≡ u → Cut starts ends joins k n held needs u
+    cut_of (Some i) e =
         let w = first_is (lacks needs reached) n i e in
         let x = lacking i w.holds in
         cut_off i w.below x.0 (λ way. true≢false (sym (marks-mean.marked i way) ∙ x.1)) (λ h g f. marks-mean.way h (reached_at h (w.lower h g) f))
-    cut_of Nothing e = whole (λ h g f. marks-mean.way h (reached_at h (first_none (lacks needs reached) n e h g) f))
+    cut_of None e = whole (λ h g f. marks-mean.way h (reached_at h (first_none (lacks needs reached) n e h g) f))
 
     pub cut_in : Cut starts ends joins k n held needs (first_of (lacks needs reached) n)
     cut_in = cut_of (first_of (lacks needs reached) n) refl

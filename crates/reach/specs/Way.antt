@@ -1,7 +1,5 @@
 -- What the marks mean: a way along conducting links. Definitions only.
-use Rattle.std.specs.Prelude.{ℕ, ◌<◌, ◌≡◌, Bool, true, false, List, length, get_or, drop}
-use Rattle.found.specs.declared.Found.{Found}
-use Rattle.found.specs.declared.Found.TheVariants.{At, Nothing}
+use Rattle.std.specs.Prelude.{ℕ, ◌<◌, ◌≡◌, Bool, true, false, List, length, get_or, drop, None, Option, Some}
 
 -- link j, one of the first k, conducts, starts at node a and ends at node b
 pub record Conducts (starts ends : List ℕ) (joins : List Bool) (k j a b : ℕ) : Type 0 where
@@ -24,7 +22,7 @@ pub record Joined (starts ends : List ℕ) (joins : List Bool) (k n : ℕ) (held
   pub long : length reached ≡ length held
 
 -- the lowest node below n that needs a way and has none, or that each has one
-pub data Cut (starts ends : List ℕ) (joins : List Bool) (k n : ℕ) (held needs : List Bool) : Found → Type 0 where
+pub data Cut (starts ends : List ℕ) (joins : List Bool) (k n : ℕ) (held needs : List Bool) : Option ℕ → Type 0 where
   cut_off : (i : ℕ) → i < n → get_or needs i false ≡ true → (Way starts ends joins k held i → ⊥)
-      → ((h : ℕ) → h < i → get_or needs h false ≡ true → Way starts ends joins k held h) → Cut starts ends joins k n held needs (At i)
-  whole : ((h : ℕ) → h < n → get_or needs h false ≡ true → Way starts ends joins k held h) → Cut starts ends joins k n held needs Nothing
+      → ((h : ℕ) → h < i → get_or needs h false ≡ true → Way starts ends joins k held h) → Cut starts ends joins k n held needs (Some i)
+  whole : ((h : ℕ) → h < n → get_or needs h false ≡ true → Way starts ends joins k held h) → Cut starts ends joins k n held needs None

@@ -5,7 +5,7 @@ ghost use Rattle.std.specs.Prelude.{◌≡◌, ◌<◌, ◌≤◌, length, get_o
 ghost use Rattle.found.specs.Searches.{first_of};
 ghost use Rattle.reach.specs.Reach.{marks, passed, follows, followed, stirred, swept, sweeps, EndsBelow, lacks};
 
-use found::Found;
+use search::first_where;
 
 // Marks one end of a link that conducts where the other is marked. Whether it was not marked before.
 fn pass(reached: &mut [bool], on: bool, from: usize, to: usize) -> bool
@@ -73,14 +73,9 @@ pub fn spread(
 }
 
 // The lowest node that needs to be joined and is not.
-pub fn first_unjoined(nodes: usize, needs: &[bool], reached: &[bool]) -> Found
+pub fn first_unjoined(nodes: usize, needs: &[bool], reached: &[bool]) -> Option<usize>
     requires { (nodes ≤ length needs.now) × (nodes ≤ length reached.now) }
     ensures { result ≡ first_of (lacks needs.now reached.now) nodes }
 {
-    for i in 0..nodes {
-        if needs[i] & !reached[i] {
-            return Found::At(i);
-        }
-    }
-    Found::Nothing
+    first_where(nodes, |i| needs[i] & !reached[i])
 }

@@ -3,7 +3,7 @@
 
 mod records;
 
-pub use codes::{LinkKind, NodeKind, Status, link_kind, status_code, status_of};
+pub use codes::{LinkKind, NodeKind, Status};
 pub use records::{
     Link, Node, Options, Pressures, link_at, node_at, options_of, pair_at, pressures_of,
 };

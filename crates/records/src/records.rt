@@ -2,7 +2,7 @@
 ghost use Rattle.std.specs.Prelude.{◌≡◌, ◌+◌, ◌≤◌, length};
 ghost use Rattle.records.specs.Records.{options_of, pressures_of, node_at, link_at, pair_at};
 
-use codes::{LinkKind, NodeKind, Status, link_kind, node_kind, status_of};
+use codes::{LinkKind, NodeKind, Status};
 use patterns::{from_bytes, two_bytes};
 
 // OP: accuracy, damping limit, max flow change, trials, flow unit.
@@ -87,7 +87,7 @@ pub fn node_at(sheet: &[u8], at: usize) -> Node
     ensures { result ≡ node_at sheet.now at }
 {
     Node {
-        kind: node_kind(sheet[at + 2]),
+        kind: NodeKind::from(sheet[at + 2]),
         disabled: sheet[at + 3] == 1,
         elevation: from_bytes(sheet, at + 4),
         demand: from_bytes(sheet, at + 12),
@@ -103,9 +103,9 @@ pub fn link_at(sheet: &[u8], at: usize) -> Link
     ensures { result ≡ link_at sheet.now at }
 {
     Link {
-        kind: link_kind(sheet[at + 2]),
+        kind: LinkKind::from(sheet[at + 2]),
         check: sheet[at + 3] == 1,
-        status: status_of(sheet[at + 4]),
+        status: Status::from(sheet[at + 4]),
         start: pair_at(sheet, at + 5),
         end: pair_at(sheet, at + 7),
         setting: from_bytes(sheet, at + 9),

@@ -1,9 +1,7 @@
 -- Demand 3: what a failed factorization at a node leads to. Definitions only.
-use Rattle.std.specs.Prelude.{ℕ, zero, suc, Bool, true, false, cond, ◌&&◌, ◌||◌, List, eqb, get_or, set}
+use Rattle.std.specs.Prelude.{ℕ, zero, suc, Bool, true, false, cond, ◌&&◌, ◌||◌, List, eqb, get_or, set, None, Option, Some}
 use Rattle.layout.specs.declared.places.Layout.{Layout}
 use Rattle.links.specs.Links.{link_start, link_end, regulator}
-use Rattle.found.specs.declared.Found.{Found}
-use Rattle.found.specs.declared.Found.TheVariants.{At, Nothing}
 use Rattle.entries.specs.declared.Entry.{Entry}
 use Rattle.entries.specs.declared.Entry.TheVariants.{Freed, Grounded, Singular}
 
@@ -17,12 +15,12 @@ unfolding touches
 regulates_at s l codes i j = regulator s l j && (touches s l i j && eqb (get_or codes j 0) 2)
 
 -- the first of m links, from link j on, that is an Active PRV or PSV at node i
-unfoldable pub regulator_from : List ℕ → Layout → List ℕ → ℕ → ℕ → ℕ → Found
+unfoldable pub regulator_from : List ℕ → Layout → List ℕ → ℕ → ℕ → ℕ → Option ℕ
 unfolding regulates_at
-regulator_from s l codes i zero j = Nothing
-regulator_from s l codes i (suc m) j = cond (regulates_at s l codes i j) (At j) (regulator_from s l codes i m (suc j))
+regulator_from s l codes i zero j = None
+regulator_from s l codes i (suc m) j = cond (regulates_at s l codes i j) (Some j) (regulator_from s l codes i m (suc j))
 
-unfoldable pub regulator_at : List ℕ → Layout → List ℕ → ℕ → Found
+unfoldable pub regulator_at : List ℕ → Layout → List ℕ → ℕ → Option ℕ
 unfolding regulator_from
 regulator_at s l codes i = regulator_from s l codes i l.links 0
 
@@ -41,10 +39,10 @@ ground_node true codes marks node = repaired (Singular (record { 0 = node })) co
 ground_node false codes marks node = repaired (Grounded (record { 0 = node })) codes (set marks node true)
 
 -- where one does: it is freed, which is XPressure (6)
-unfoldable pub free : Found → List ℕ → List Bool → ℕ → Repaired
+unfoldable pub free : Option ℕ → List ℕ → List Bool → ℕ → Repaired
 unfolding ground_node
-free (At j) codes marks node = repaired (Freed (record { 0 = j })) (set codes j 6) marks
-free Nothing codes marks node = ground_node (get_or marks node false) codes marks node
+free (Some j) codes marks node = repaired (Freed (record { 0 = j })) (set codes j 6) marks
+free None codes marks node = ground_node (get_or marks node false) codes marks node
 
 unfoldable pub repair_at : List ℕ → Layout → List ℕ → List Bool → ℕ → Repaired
 unfolding regulator_at free

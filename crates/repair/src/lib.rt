@@ -9,15 +9,11 @@ ghost use Rattle.links.specs.Links.{regulator};
 ghost use Rattle.links_at.specs.LinksAt.{LinksAt};
 ghost use Rattle.repair.specs.Repair.{regulator_at, repaired, repair_at};
 
+use codes::Status;
 use entries::Entry;
-use found::Found;
 use layout::Layout;
 use links::{LinkIndex, is_regulator};
 use nodes::NodeIndex;
-
-const ACTIVE: u8 = 2;
-
-const XPRESSURE: u8 = 6;
 
 // Whether a link is an Active PRV or PSV.
 fn regulates(sheet: &[u8], l: Layout, statuses: &[u8], j: usize) -> bool
@@ -25,7 +21,7 @@ fn regulates(sheet: &[u8], l: Layout, statuses: &[u8], j: usize) -> bool
     requires j_lt_links { (j < l.links) × (j < length statuses.now) }
     ensures { result ≡ (regulator sheet.now l j && eqb (get_or statuses.now j 0) 2) }
 {
-    is_regulator(sheet, l, j) & (statuses[j] == ACTIVE)
+    is_regulator(sheet, l, j) & (statuses[j] == u8::from(Status::Active))
 }
 
 // The lowest-numbered Active PRV or PSV that touches the node.
@@ -36,7 +32,7 @@ fn regulator_at(
     listed: &[usize],
     statuses: &[u8],
     node: NodeIndex,
-) -> Found
+) -> Option<usize>
     requires laid { Laid l sheet.now }
     requires links_at { LinksAt l sheet.now places.now listed.now }
     requires node_lt_nodes { (node.0 < l.nodes) × (l.links ≤ length statuses.now) }
@@ -47,10 +43,10 @@ fn regulator_at(
     for p in places[i]..last {
         let j = listed[p];
         if regulates(sheet, l, statuses, j) {
-            return Found::At(j);
+            return Some(j);
         }
     }
-    Found::Nothing
+    None
 }
 
 // The repair, or SG.
@@ -69,11 +65,11 @@ pub fn repair(
     ensures { repaired result statuses.new grounded.new ≡ repair_at sheet.now l statuses.old grounded.old node.0 }
 {
     match regulator_at(sheet, l, places, listed, statuses, node) {
-        Found::At(j) => {
-            statuses[j] = XPRESSURE;
+        Some(j) => {
+            statuses[j] = u8::from(Status::XPressure);
             Entry::Freed(LinkIndex(j))
         }
-        Found::Nothing => {
+        None => {
             let i = node.0;
             if grounded[i] {
                 Entry::Singular(node)

@@ -25,7 +25,6 @@ use Rattle.records.specs.declared.records.Link.{Link}
 use Rattle.links.specs.Links.{link_of, regulator}
 use Rattle.fields.specs.Fields.{base_bounds, null, within, all_within, link_codes, link_numbers, link_good}
 use Rattle.sheet.specs.Read.{read_of}
-use Rattle.sheet.specs.declared.reading.Reading.TheVariants.{Good}
 use Rattle.sheet.proofs.Laws.{and_right}
 use Rattle.accepted.proofs.Accepts.{accepts, each_within, link_floats}
 use Rattle.constants.specs.Arithmetic.{times, over}
@@ -43,6 +42,7 @@ use Rattle.conductances.specs.Conductances.{regulates, Sound}
 use Rattle.conductances.proofs.Theorem.{link_conducts}
 use Rattle.repairs_bound.proofs.Floats.{test_above}
 use Rattle.repairs_bound.proofs.Diagonal.{Lifting}
+use Rattle.std.specs.Prelude.{Ok}
 
 -- ---- a conductance is an f64
 
@@ -144,7 +144,7 @@ pipe_code_lem : (code : ℕ) → code ≡ 0 → link_kind_of code ≡ Pipe
 unfolding link_kind_of
 pipe_code_lem code e = rw e
 
-module _ (s : List ℕ) (l : Layout) (read : read_of s ≡ Good l) (j : ℕ) (h : j < l.links) where
+module _ (s : List ℕ) (l : Layout) (read : read_of s ≡ Ok l) (j : ℕ) (h : j < l.links) where
   good : link_good base_bounds l.nodes s (link_place l j) ≡ true
   unfolding read_of
   good = (accepts base_bounds s l read).each_link j h
@@ -253,7 +253,7 @@ not_regulating s l codes i j t n = go (regulates (link_kind_of (byte_at s (link_
 
 -- ---- a link at a node without an Active regulator
 
-module _ (s : List ℕ) (l : Layout) (read : read_of s ≡ Good l) where
+module _ (s : List ℕ) (l : Layout) (read : read_of s ≡ Ok l) where
   pub link_lifts : (flows : List Float) (codes : List ℕ) (excess : List Float) (i j : ℕ) → j < l.links → T (fits binary64 (get_or flows j nan)) → wild_of (get_or flows j nan) ≡ false → touches s l i j ≡ true → regulates_at s l codes i j ≡ false
       → Lifting (coefficients_at s l flows codes excess (link_of s l j) j)
   unfolding coefficients_at Held

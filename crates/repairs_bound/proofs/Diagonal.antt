@@ -1,4 +1,5 @@
 -- The diagonal entry of a junction in service: above zero where each of its links lifts it, or where it is grounded. Assumes nothing.
+use Rattle.std.specs.Prelude.{None}
 use Prim.Native.Nat.{ℕ, zero, suc, ◌+◌, ◌*◌, ◌≤◌, ◌<◌}
 use mathlib.Core.Path.{◌≡◌, refl, sym, ap, ◌∙◌, subst}
 use mathlib.Core.Logic.{⊎_elim}
@@ -22,8 +23,7 @@ use Rattle.coefficient.specs.declared.Coefficients.{Coefficients}
 use Rattle.columns.specs.Columns.{cleared}
 use Rattle.columns.proofs.Laws.{cleared_at, cleared_long}
 use Rattle.nodes.specs.Nodes.{enabled, in_service, serving}
-use Rattle.numbering.specs.Numbering.{row_at}
-use Rattle.numbering.specs.declared.Row.{Row}
+use Rattle.numbering.specs.Numbering.{row_at, Row}
 use Rattle.numbering.proofs.Numbers.{at_most, one_to_one}
 use Rattle.rows.specs.Rows.{on_diagonal}
 use Rattle.rows.proofs.Lengths.{on_diagonal_long}
@@ -46,8 +46,8 @@ use Rattle.repairs_bound.proofs.Places.{Off, own, diagonal_off, diagonal_own, li
 -- what a link adds lifts a diagonal entry, and no node's addition stands beside it
 pub record Lifting (c : Coefficients) : Type 0 where
   pub conductance : Lifted c.conductance
-  pub no_start : c.upstream.given ≡ false
-  pub no_end : c.downstream.given ≡ false
+  pub no_start : c.upstream ≡ None
+  pub no_end : c.downstream ≡ None
 
 -- a diagonal entry: +0.0 as long as no link in service is there, then above zero
 abbrev Entry : Bool → Float → Type 0

@@ -18,15 +18,14 @@ use Rattle.coefficient.specs.declared.Coefficients.{Coefficients}
 use Rattle.coefficient.specs.declared.NodeAddition.{NodeAddition}
 use Rattle.columns.specs.Columns.{cleared, add_to, take_from, zeros}
 use Rattle.nodes.specs.Nodes.{enabled}
-use Rattle.numbering.specs.Numbering.{row_at}
-use Rattle.numbering.specs.declared.Row.{Row}
-use Rattle.numbering.specs.declared.Row.TheVariants.{Unknown, Fixed}
+use Rattle.numbering.specs.Numbering.{row_at, Row}
 use Rattle.rows.specs.Rows.{on_diagonal, lower, off_between}
 use Rattle.scatter.specs.Scatter.{given_diagonal, link_matrix}
 use Rattle.drawing.specs.Drawing.{range_of, bend_of}
 use Rattle.drawing.specs.declared.Bend.{Bend}
 use Rattle.bends.specs.Bends.{bends, bend_diagonal, node_diagonal, diagonal_bends, bent_matrix}
 use Rattle.assembly.specs.Assembly.{System, system, View, coefficients_at, link_placed, link_added, with_links, ground_of, grounded_of, assemble_of}
+use Rattle.std.specs.Prelude.{None, Option, Some}
 
 abbrev pub AllFit : List Float → Type 0
 AllFit a = (p : ℕ) → T (fits binary64 (get_or a p nan))
@@ -54,22 +53,23 @@ cleared_fit (suc n) a f = set_fit (cleared n a) n (of_bits binary64 0) (of_bits-
 
 diagonal_fit : (row : Row) (x : Float) (m : List Float) → AllFit m → AllFit (on_diagonal row x m)
 unfolding on_diagonal add_to
-diagonal_fit (Unknown u) x m f = set_fit m (64 * u.0 + u.0) (add binary64 (get_or m (64 * u.0 + u.0) nan) x) (add-fits binary64 (get_or m (64 * u.0 + u.0) nan) x) f
-diagonal_fit Fixed x m f = f
+diagonal_fit (Some u) x m f = set_fit m (64 * u.0 + u.0) (add binary64 (get_or m (64 * u.0 + u.0) nan) x) (add-fits binary64 (get_or m (64 * u.0 + u.0) nan) x) f
+diagonal_fit None x m f = f
 
 between_fit : (u v : Row) (x : Float) (m : List Float) → AllFit m → AllFit (off_between u v x m)
 unfolding off_between take_from
-between_fit (Unknown u) (Unknown v) x m f = set_fit m (lower u.0 v.0) (sub binary64 (get_or m (lower u.0 v.0) nan) x) (sub-fits binary64 (get_or m (lower u.0 v.0) nan) x) f
-between_fit (Unknown u) Fixed x m f = f
-between_fit Fixed v x m f = f
+between_fit (Some u) (Some v) x m f = set_fit m (lower u.0 v.0) (sub binary64 (get_or m (lower u.0 v.0) nan) x) (sub-fits binary64 (get_or m (lower u.0 v.0) nan) x) f
+between_fit (Some u) None x m f = f
+between_fit None v x m f = f
 
 either_fit : (b : Bool) (z m : List Float) → AllFit z → AllFit m → AllFit (cond b z m)
 either_fit true z m f g = f
 either_fit false z m f g = g
 
-given_fit : (a : NodeAddition) (row : Row) (m : List Float) → AllFit m → AllFit (given_diagonal a row m)
+given_fit : (a : Option NodeAddition) (row : Row) (m : List Float) → AllFit m → AllFit (given_diagonal a row m)
 unfolding given_diagonal
-given_fit a row m f = either_fit a.given (on_diagonal row a.diagonal m) m (diagonal_fit row a.diagonal m f) f
+given_fit None row m f = f
+given_fit (Some a) row m f = diagonal_fit row a.diagonal m f
 
 link_fit : (u v : Row) (c : Coefficients) (m : List Float) → AllFit m → AllFit (link_matrix u v c m)
 unfolding link_matrix

@@ -24,7 +24,6 @@ use Rattle.links.specs.Links.{link_of}
 use Rattle.nodes.specs.Nodes.{enabled}
 use Rattle.fields.specs.Fields.{base_bounds, within}
 use Rattle.sheet.specs.Read.{read_of}
-use Rattle.sheet.specs.declared.reading.Reading.TheVariants.{Good}
 use Rattle.zeros.proofs.Zeros.{clash}
 use Rattle.constants.specs.Arithmetic.{minus}
 use Rattle.constants.specs.Constants as constant
@@ -34,22 +33,21 @@ use Rattle.state.specs.State.{State, flows_from, solved_heads}
 use Rattle.state.proofs.Kept.{flows_long}
 use Rattle.starts.specs.Start.{start_of}
 use Rattle.solver.proofs.Laws.{network_of}
-use Rattle.found.specs.declared.Found.{Found}
-use Rattle.found.specs.declared.Found.TheVariants.{At, Nothing}
 use Rattle.wild.specs.Wild.{wild_place}
-use Rattle.causes.specs.declared.Flip.{Flip}
 use Rattle.update.specs.Update.{Stepping, stepping, still, Basis, basis, flow_change, link_set, link_moved, link_update, link_updates, update_of}
 use Rattle.update.specs.declared.Stats.{Stats}
 use Rattle.tanks.specs.Tanks.{tank_links_of}
 use Rattle.drawn.specs.Drawn.{draws, drawn_of}
 use Rattle.damping.specs.declared.steps.Damping.{Damping}
 use Rattle.entries.specs.Entries.{going_of}
-use Rattle.entries.specs.declared.Going.TheVariants.{On}
 use Rattle.step.specs.Step.{step_entry, step_of}
 use Rattle.promises.specs.Wilds.{is_wild}
 use Rattle.promises.proofs.Wilds.{none_is_wild}
 use Rattle.repairs_bound.proofs.Fitting.{AllFit, set_fit, zeros_fit}
 use Rattle.repairs_bound.proofs.Conducting.{bytes_fit, flow_within}
+use Rattle.std.specs.Prelude.{None, Ok, Option, Some}
+use Rattle.std.proofs.Common.{Continue}
+use Rattle.causes.specs.Causes.{Flip}
 
 -- each of the first n flows is an f64 that is not wild
 pub record Tame (n : ℕ) (flows : List Float) : Type 0 where
@@ -91,7 +89,7 @@ module _ (s : List ℕ) (l : Layout) where
       (λ (q : j < n). get_or-set_other (flows_from s l n x) n j (link_of s l n).flow nan (λ z. omega arith) ∙ starts_at n x (omega arith) j q)
       (eq-or-lt_of_le (le_of_suc-le-suc b))
 
-  pub start_tame : read_of s ≡ Good l → Tame l.links (start_of s l).flows
+  pub start_tame : read_of s ≡ Ok l → Tame l.links (start_of s l).flows
   unfolding start_of
   start_tame read =
       record {
@@ -120,13 +118,13 @@ module _ (s : List ℕ) (l : Layout) (b : Basis) where
   update_fits q c f = updates_fit l.links (stepping q c still) f
 
 -- a run that goes on after a step met nothing wild
-goes_tame : (f : Found) (o : Options) (d d' : Damping) (m : Stats) (flip : Flip) → going_of d (step_entry f o d m flip) ≡ On d' → f ≡ Nothing
+goes_tame : (f : Option ℕ) (o : Options) (d d' : Damping) (m : Stats) (flip : Flip) → going_of d (step_entry f o d m flip) ≡ Continue d' → f ≡ None
 unfolding step_entry going_of
-goes_tame (At p) o d d' m flip e = absurd (let z : ◌≡◌ {A = ℕ} 0 1 = cc in omega arith)
-goes_tame Nothing o d d' m flip e = refl
+goes_tame (Some p) o d d' m flip e = absurd (let z : ◌≡◌ {A = ℕ} 0 1 = cc in omega arith)
+goes_tame None o d d' m flip e = refl
 
 module _ (s : List ℕ) (l : Layout) (d : Damping) (t : State) where
-  pub step_tame : (g y x : List Float) (d' : Damping) → Tame l.links t.flows → going_of d (step_of s l d t g y x).entry ≡ On d' → Tame l.links (step_of s l d t g y x).state.flows
+  pub step_tame : (g y x : List Float) (d' : Damping) → Tame l.links t.flows → going_of d (step_of s l d t g y x).entry ≡ Continue d' → Tame l.links (step_of s l d t g y x).state.flows
   unfolding step_of is_wild
   step_tame g y x d' was on =
       let h = solved_heads s l x l.nodes t.heads in

@@ -18,7 +18,6 @@ use Rattle.records.specs.Records.{link_at}
 use Rattle.links.specs.Links.{link_of, link_start, link_end}
 use Rattle.nodes.specs.Nodes.{enabled, in_service, serving}
 use Rattle.numbering.specs.Numbering.{row_at}
-use Rattle.numbering.specs.declared.Row.TheVariants.{Unknown, Fixed}
 use Rattle.numbering.proofs.Numbers.{at_most, monotone}
 use Rattle.rows.specs.Rows.{lower}
 use Rattle.repair.specs.Repair.{touches}
@@ -27,6 +26,7 @@ use Rattle.assembly.specs.Assembly.{System, View, assemble_of}
 use Rattle.assembly.specs.Unfilled.{OffDiagonal, Apart, Unfilled}
 use Rattle.assembly.proofs.Unfilled.{unfilled}
 use Rattle.repairs_bound.proofs.Pivots.{Bare}
+use Rattle.std.specs.Prelude.{None, Some}
 
 -- ---- definitions
 
@@ -107,11 +107,11 @@ module _ (s : List ℕ) (l : Layout) where
   pub not_joined : (i j : ℕ) → in_service s l i ≡ true → joins s l i ≡ false → j < l.links → serves_at s l i j ≡ true → ⊥
   not_joined i j w e h a = clash (sym (none_joins i w e) ∙ has_of i l.links j h a)
 
-  pub row_of : (i : ℕ) (u : UnknownIndex) → row_at s l i ≡ Unknown u → (in_service s l i ≡ true) × (serving s l i ≡ u.0)
+  pub row_of : (i : ℕ) (u : UnknownIndex) → row_at s l i ≡ Some u → (in_service s l i ≡ true) × (serving s l i ≡ u.0)
   unfolding row_at
   row_of i u e = go (in_service s l i) refl e
     where
-      go : (b : Bool) → in_service s l i ≡ b → cond b (Unknown (record { 0 = serving s l i })) Fixed ≡ Unknown u → (in_service s l i ≡ true) × (serving s l i ≡ u.0)
+      go : (b : Bool) → in_service s l i ≡ b → cond b (Some (record { 0 = serving s l i })) None ≡ Some u → (in_service s l i ≡ true) × (serving s l i ≡ u.0)
       go true p q = let same : serving s l i ≡ u.0 = cc in (p, same)
       go false p q = absurd (let z : ◌≡◌ {A = ℕ} 0 1 = cc in omega arith)
 
@@ -140,7 +140,7 @@ module _ (s : List ℕ) (l : Layout) (net : Network l s) (i : ℕ) (below : i < 
   small : serving s l i < 64
   small = omega (arith, at_most s l i, net.nodes)
 
-  row_small : (h : ℕ) → h < l.nodes → (u : UnknownIndex) → row_at s l h ≡ Unknown u → u.0 < 64
+  row_small : (h : ℕ) → h < l.nodes → (u : UnknownIndex) → row_at s l h ≡ Some u → u.0 < 64
   row_small h b u e = omega (arith, (row_of s l h u e).1, at_most s l h, net.nodes)
 
   module _ (r j : ℕ) (lo : j < r) (hi : r ≤ serving s l i) where
@@ -153,7 +153,7 @@ module _ (s : List ℕ) (l : Layout) (net : Network l s) (i : ℕ) (below : i < 
         }
 
     -- a node with the lower row would be a junction that the link joins, before node i
-    no-joint : (k h : ℕ) → k < l.links → serves s l k ≡ true → touches s l h k ≡ true → (u : UnknownIndex) → row_at s l h ≡ Unknown u → u.0 ≡ j → ⊥
+    no-joint : (k h : ℕ) → k < l.links → serves s l k ≡ true → touches s l h k ≡ true → (u : UnknownIndex) → row_at s l h ≡ Some u → u.0 ≡ j → ⊥
     unfolding serves_at
     no-joint k h b on at u e same =
         let w = row_of s l h u e in

@@ -17,11 +17,11 @@ use Rattle.roots.specs.Root.{root_of}
 use Rattle.zeros.specs.Zeros.{minus_zero, Firm}
 use Rattle.zeros.proofs.Zeros.{clash, zero_skipped}
 use Rattle.linear.specs.declared.factorization.UnknownIndex.{UnknownIndex}
-use Rattle.linear.specs.declared.factorization.Factored.TheVariants.{Stopped}
 use Rattle.linear.specs.Matrix.{at, put}
 use Rattle.linear.specs.Factorization.{above, less, reduced, divided, Outcome, columns, factor_of}
 use Rattle.linear.proofs.Filling.{length_fill, fill_before, fill_after, fill_at}
 use Rattle.repairs_bound.proofs.Floats.{test_above, zero_quotient, root_above}
+use Rattle.std.specs.Prelude.{Err}
 
 -- ---- +0.0
 
@@ -162,27 +162,27 @@ module _ (n c k : ℕ) (a : List Float) (hn : n ≤ 64) (hc : c < n) (hk : k ≤
 
 -- ---- all columns
 
-columns_one : (n m k : ℕ) (a : List Float) → columns n (suc m) k a ≡ cond (above (at (reduced n k k a) k k)) (columns n m (suc k) (turned n k a)) (record { matrix = reduced n k k a; answer = Stopped (record { 0 = k }) })
+columns_one : (n m k : ℕ) (a : List Float) → columns n (suc m) k a ≡ cond (above (at (reduced n k k a) k k)) (columns n m (suc k) (turned n k a)) (record { matrix = reduced n k k a; answer = Err (record { 0 = k }) })
 unfolding columns turned
 columns_one n m k a = refl
 
-columns_none : (n k : ℕ) (a : List Float) (u : UnknownIndex) → (columns n 0 k a).answer ≡ Stopped u → ⊥
+columns_none : (n k : ℕ) (a : List Float) (u : UnknownIndex) → (columns n 0 k a).answer ≡ Err u → ⊥
 unfolding columns
 columns_none n k a u e = let z : ◌≡◌ {A = ℕ} 0 1 = cc in omega arith
 
 -- a stop is not before the first column
-stops_from : (n m k : ℕ) (a : List Float) (u : UnknownIndex) → (columns n m k a).answer ≡ Stopped u → k ≤ u.0
+stops_from : (n m k : ℕ) (a : List Float) (u : UnknownIndex) → (columns n m k a).answer ≡ Err u → k ≤ u.0
 stops_from n zero k a u e = absurd (columns_none n k a u e)
 stops_from n (suc m) k a u e =
     go (above (at (reduced n k k a) k k)) (ap (λ (o : Outcome). o.answer) (sym (columns_one n m k a)) ∙ e) (stops_from n m (suc k) (turned n k a) u)
   where
-    go : (b : Bool) → (cond b (columns n m (suc k) (turned n k a)) (record { matrix = reduced n k k a; answer = Stopped (record { 0 = k }) })).answer ≡ Stopped u
-        → ((columns n m (suc k) (turned n k a)).answer ≡ Stopped u → suc k ≤ u.0) → k ≤ u.0
+    go : (b : Bool) → (cond b (columns n m (suc k) (turned n k a)) (record { matrix = reduced n k k a; answer = Err (record { 0 = k }) })).answer ≡ Err u
+        → ((columns n m (suc k) (turned n k a)).answer ≡ Err u → suc k ≤ u.0) → k ≤ u.0
     go true f ih = omega (arith, ih f)
     go false f ih = let p : k ≡ u.0 = cc in omega arith
 
 module _ (n c : ℕ) (hn : n ≤ 64) (hc : c < n) (u : UnknownIndex) (hu : u.0 ≤ c) where
-  from_column : (m k : ℕ) (a : List Float) → length a ≡ 4096 → Bare c a → ((r : ℕ) → k ≤ r → r ≤ c → T (fits binary64 (at a r r))) → (columns n m k a).answer ≡ Stopped u
+  from_column : (m k : ℕ) (a : List Float) → length a ≡ 4096 → Bare c a → ((r : ℕ) → k ≤ r → r ≤ c → T (fits binary64 (at a r r))) → (columns n m k a).answer ≡ Err u
       → above (at a u.0 u.0) ≡ false
   from_column zero k a long bare held e = absurd (columns_none n k a u e)
   from_column (suc m) k a long bare held e =
@@ -195,8 +195,8 @@ module _ (n c : ℕ) (hn : n ≤ 64) (hc : c < n) (u : UnknownIndex) (hu : u.0 �
       fit = held k (omega arith) first
 
       go : (b : Bool) → above (at (reduced n k k a) k k) ≡ b
-          → (cond b (columns n m (suc k) (turned n k a)) (record { matrix = reduced n k k a; answer = Stopped (record { 0 = k }) })).answer ≡ Stopped u
-          → (length (turned n k a) ≡ 4096 → Bare c (turned n k a) → ((r : ℕ) → suc k ≤ r → r ≤ c → T (fits binary64 (at (turned n k a) r r))) → (columns n m (suc k) (turned n k a)).answer ≡ Stopped u
+          → (cond b (columns n m (suc k) (turned n k a)) (record { matrix = reduced n k k a; answer = Err (record { 0 = k }) })).answer ≡ Err u
+          → (length (turned n k a) ≡ 4096 → Bare c (turned n k a) → ((r : ℕ) → suc k ≤ r → r ≤ c → T (fits binary64 (at (turned n k a) r r))) → (columns n m (suc k) (turned n k a)).answer ≡ Err u
           → above (at (turned n k a) u.0 u.0) ≡ false)
           → above (at a u.0 u.0) ≡ false
       go true p f ih =
@@ -211,6 +211,6 @@ module _ (n c : ℕ) (hn : n ≤ 64) (hc : c < n) (u : UnknownIndex) (hu : u.0 �
           stop false q = refl
 
   -- a factorization that stops at one of these rows stops at a diagonal entry that is not above zero
-  pub stops_at_diagonal : (a : List Float) → length a ≡ 4096 → Bare c a → ((r : ℕ) → r ≤ c → T (fits binary64 (at a r r))) → (factor_of n a).answer ≡ Stopped u → above (at a u.0 u.0) ≡ false
+  pub stops_at_diagonal : (a : List Float) → length a ≡ 4096 → Bare c a → ((r : ℕ) → r ≤ c → T (fits binary64 (at a r r))) → (factor_of n a).answer ≡ Err u → above (at a u.0 u.0) ≡ false
   unfolding factor_of
   stops_at_diagonal a long bare held e = from_column n 0 a long bare (λ r lo hi. held r hi) e

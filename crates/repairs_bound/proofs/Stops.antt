@@ -11,17 +11,12 @@ use Rattle.layout.specs.declared.places.Layout.{Layout}
 use Rattle.links.specs.Links.{link_of}
 use Rattle.nodes.specs.Nodes.{serving}
 use Rattle.sheet.specs.Read.{read_of}
-use Rattle.sheet.specs.declared.reading.Reading.TheVariants.{Good}
 use Rattle.sheet.proofs.Laws.{and_right}
 use Rattle.found.specs.Searches.{first_of, First}
-use Rattle.found.specs.declared.Found.{Found}
-use Rattle.found.specs.declared.Found.TheVariants.{At, Nothing}
 use Rattle.found.proofs.Firsts.{first_is, first_none}
 use Rattle.zeros.proofs.Zeros.{clash}
 use Rattle.linear.specs.Matrix.{at}
-use Rattle.linear.specs.Factorization.{above, factor_of}
-use Rattle.linear.specs.declared.factorization.Factored.{Factored}
-use Rattle.linear.specs.declared.factorization.Factored.TheVariants.{Done, Stopped}
+use Rattle.linear.specs.Factorization.{above, factor_of, Factored}
 use Rattle.linear.proofs.Laws.{stops_below}
 use Rattle.columns.specs.Columns.{zeros}
 use Rattle.columns.proofs.Laws.{zeros_long}
@@ -47,6 +42,7 @@ use Rattle.repairs_bound.proofs.Joined.{serves, serves_at, joins, joins_has, not
 use Rattle.repairs_bound.proofs.Diagonal.{Lifting, linked-lifted, grounded-lifted}
 use Rattle.repairs_bound.proofs.Conducting.{link_lifts}
 use Rattle.repairs_bound.proofs.Flows.{Tame}
+use Rattle.std.specs.Prelude.{Err, None, Ok, Option, Some}
 
 -- one that passes is counted
 count_some : (n : ℕ) (f : ℕ → Bool) (j : ℕ) → j < n → f j ≡ true → 1 ≤ count n f
@@ -63,7 +59,7 @@ count_some (suc n) f j h e = go (f n) refl (λ b. count_some n f j b e)
 
 -- ---- the system of a state
 
-module _ (s : List ℕ) (l : Layout) (read : read_of s ≡ Good l) (t : State) where
+module _ (s : List ℕ) (l : Layout) (read : read_of s ≡ Ok l) (t : State) where
   matrix : List Float
   matrix = (system_of s l t).matrix
 
@@ -87,19 +83,19 @@ module _ (s : List ℕ) (l : Layout) (read : read_of s ≡ Good l) (t : State) w
 
   -- ---- a stop behind rows without a link
 
-  stopped_row : (v : ℕ) → stop_of s l t ≡ At v → (factor_of l.unknowns matrix).answer ≡ Stopped (record { 0 = serving s l v })
+  stopped_row : (v : ℕ) → stop_of s l t ≡ Some v → (factor_of l.unknowns matrix).answer ≡ Err (record { 0 = serving s l v })
   unfolding stop_of stop_node matrix
   stopped_row v e = go (factor_of l.unknowns (system_of s l t).matrix).answer refl e
     where
-      go : (f : Factored) → (factor_of l.unknowns (system_of s l t).matrix).answer ≡ f → stop_node s l f ≡ At v → f ≡ Stopped (record { 0 = serving s l v })
-      go Done p q = absurd (let z : ◌≡◌ {A = ℕ} 0 1 = cc in omega arith)
-      go (Stopped u) p q =
+      go : (f : Factored) → (factor_of l.unknowns (system_of s l t).matrix).answer ≡ f → stop_node s l f ≡ Some v → f ≡ Err (record { 0 = serving s l v })
+      go (Ok tt) p q = absurd (let z : ◌≡◌ {A = ℕ} 0 1 = cc in omega arith)
+      go (Err u) p q =
           let w = node_of s l l.nodes u.0 (omega (arith, stops_below l.unknowns (system_of s l t).matrix u p, (network_of s l read).unknowns)) in
           let here : node_numbered s l l.nodes u.0 ≡ v = cc in
           let row : u.0 ≡ serving s l v = sym w.number ∙ ap (serving s l) here in
-          ap (λ (k : ℕ). Stopped (record { 0 = k })) row
+          ap (λ (k : ℕ). Err (record { 0 = k })) row
 
-  not_above : (v : ℕ) → stop_of s l t ≡ At v → ((h : ℕ) → h < v → joins s l h ≡ false) → above (at matrix (serving s l v) (serving s l v)) ≡ false
+  not_above : (v : ℕ) → stop_of s l t ≡ Some v → ((h : ℕ) → h < v → joins s l h ≡ false) → above (at matrix (serving s l v) (serving s l v)) ≡ false
   not_above v e lone =
       let net = network_of s l read in
       let is = stop_node_lem s l net.unknowns t v e in
@@ -107,7 +103,7 @@ module _ (s : List ℕ) (l : Layout) (read : read_of s ≡ Good l) (t : State) w
       stops_at_diagonal l.unknowns (serving s l v) (omega (arith, net.unknowns, at_most s l l.nodes, net.nodes)) (omega (arith, row, net.unknowns)) (record { 0 = serving s l v }) (omega arith)
       matrix matrix_long (matrix_bare v is.0 lone) (λ r h. matrix_fit (64 * r + r)) (stopped_row v e)
 
-  not_lifted : (v : ℕ) → stop_of s l t ≡ At v → ((h : ℕ) → h < v → joins s l h ≡ false) → Lifted (at matrix (serving s l v) (serving s l v)) → ⊥
+  not_lifted : (v : ℕ) → stop_of s l t ≡ Some v → ((h : ℕ) → h < v → joins s l h ≡ false) → Lifted (at matrix (serving s l v) (serving s l v)) → ⊥
   not_lifted v e lone f = clash (sym (not_above v e lone) ∙ above_test _ f.risen)
 
   -- ---- the lowest junction with a link in service
@@ -139,6 +135,6 @@ module _ (s : List ℕ) (l : Layout) (read : read_of s ≡ Good l) (t : State) w
   unfolding loose is_loose
   refused_loose free v f = go (first_of (joins s l) l.nodes) refl
     where
-      go : (w : Found) → first_of (joins s l) l.nodes ≡ w → 1 ≤ count l.nodes (is_loose s l t.grounded)
-      go (At m) e = let g = first_is (joins s l) l.nodes m e in count_some l.nodes (is_loose s l t.grounded) m g.below (rw ((joins_has s l m g.holds).0, free m g))
-      go Nothing e = absurd (not_refused (first_none (joins s l) l.nodes e) v f)
+      go : (w : Option ℕ) → first_of (joins s l) l.nodes ≡ w → 1 ≤ count l.nodes (is_loose s l t.grounded)
+      go (Some m) e = let g = first_is (joins s l) l.nodes m e in count_some l.nodes (is_loose s l t.grounded) m g.below (rw ((joins_has s l m g.holds).0, free m g))
+      go None e = absurd (not_refused (first_none (joins s l) l.nodes e) v f)

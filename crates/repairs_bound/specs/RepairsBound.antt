@@ -1,9 +1,8 @@
 -- Demand 3 bettered: of any solve, no run of consecutive failed trials exceeds V + U. Statements only.
-use Rattle.std.specs.Prelude.{ℕ, ◌+◌, ◌≤◌, ◌<◌, ◌≡◌, true, List, drop}
+use Rattle.std.specs.Prelude.{ℕ, ◌+◌, ◌≤◌, ◌<◌, ◌≡◌, true, List, drop, Ok}
 use Rattle.layout.specs.declared.places.Layout.{Layout}
 use Rattle.nodes.specs.Nodes.{serving}
 use Rattle.sheet.specs.Read.{read_of}
-use Rattle.sheet.specs.declared.reading.Reading.TheVariants.{Good}
 use Rattle.answers.specs.Answers.{Lent}
 use Rattle.solver.specs.Solve.{solve_of}
 use Rattle.promises.specs.Trials.{run_in, point_in}
@@ -12,7 +11,7 @@ use Rattle.promises.specs.Solves.{Runs}
 
 -- with U junctions in service and V regulators Active before trial i, no more than V + U trials fail one after the other from it on
 abbrev pub SolveRepairsBound : Type 0
-SolveRepairsBound = (s : List ℕ) (l : Layout) → read_of s ≡ Good l → (i : ℕ) → failing (drop i (run_in s l).entries) ≤ active s l (point_in s l i).state + serving s l l.nodes
+SolveRepairsBound = (s : List ℕ) (l : Layout) → read_of s ≡ Ok l → (i : ℕ) → failing (drop i (run_in s l).entries) ≤ active s l (point_in s l i).state + serving s l l.nodes
 
 -- the same by the bytes of the record: no more than V + U entries with the letters VF, GN or SG stand one behind the other from the ith on
 abbrev pub RepairsBoundShown : Type 0

@@ -5,7 +5,7 @@
 ghost use Rattle.std.specs.Prelude.{◌≡◌, ◌+◌, ◌*◌, ◌<◌, ◌≤◌, length};
 ghost use Rattle.repairs_shown.specs.Shown.{shows, repair_shown};
 
-use found::Found;
+use search::first_where;
 
 // Whether the ith entry's letters are VF or GN.
 fn shows(entries: &[u8], i: usize) -> bool
@@ -14,18 +14,13 @@ fn shows(entries: &[u8], i: usize) -> bool
 {
     let first = entries[4 * i];
     let second = entries[4 * i + 1];
-    ((first == 86) & (second == 70)) | ((first == 71) & (second == 78))
+    ((first == b'V') & (second == b'F')) | ((first == b'G') & (second == b'N'))
 }
 
 // The first of so many entries that is a repair.
-pub fn repair_shown(entries: &[u8], trials: usize) -> Found
+pub fn repair_shown(entries: &[u8], trials: usize) -> Option<usize>
     requires { (trials < 65536) × (4 * trials ≤ length entries.now) }
     ensures { result ≡ repair_shown entries.now trials }
 {
-    for i in 0..trials {
-        if shows(entries, i) {
-            return Found::At(i);
-        }
-    }
-    Found::Nothing
+    first_where(trials, |i| shows(entries, i))
 }

@@ -17,27 +17,16 @@ fn show<W: Write>(writer: &mut W, sheet: &[u8]) -> io::Result<()> {
 fn step<R: Read, W: Write>(reader: &mut R, writer: &mut W) -> io::Result<bool> {
     let mut head = [0u8; 4];
     let mut buffer = [0u8; 65536];
-    let next = standard::next_sheet(reader, writer, &mut head, &mut buffer)?;
-    if next.none {
+    let Some(size) = standard::next_sheet(reader, writer, &mut head, &mut buffer)? else {
         return Ok(false);
-    }
-    let size = next.size;
+    };
     show(writer, &buffer[..size])?;
     Ok(true)
 }
 
-fn run(rt: &HostRuntime) -> io::Result<()> {
+fn main(rt: HostRuntime) -> ExitCode {
     let mut reader = rt.stdin();
     let mut writer = rt.stdout();
-    for _ in 0..u64::MAX {
-        if !step(&mut reader, &mut writer)? {
-            return Ok(());
-        }
-    }
-    Ok(())
-}
-
-fn main(rt: HostRuntime) -> ExitCode {
-    let done = run(&rt);
+    let done = standard::take_steps(u64::MAX, || step(&mut reader, &mut writer));
     standard::ended(&rt, done)
 }

@@ -9,19 +9,16 @@ use Rattle.layout.specs.Places.{heading, planned, link_place}
 use Rattle.layout.specs.declared.places.Layout.{Layout}
 use Rattle.layout.proofs.Laws.{at_least}
 use Rattle.found.specs.Searches.{or_else}
-use Rattle.found.specs.declared.Found.{Found}
-use Rattle.found.specs.declared.Found.TheVariants.{At, Nothing}
 use Rattle.nodes.specs.Nodes.{in_service, serving}
 use Rattle.fields.specs.Fields.{pressures_good, link_good}
 use Rattle.fields.specs.declared.fields.Bounds.{Bounds}
 use Rattle.refusals.specs.declared.refusals.Refusal.TheVariants.{Field}
 use Rattle.sheet.specs.Scan.{records_from, has_options, has_pressures, nodes_at, nodes_of, links_of, layout_of, end_of}
-use Rattle.sheet.specs.Read.{bad_ends, bad_link, bad_node, bad_field, pressures_fine, unless, with_unknowns, checked, after_scan, read_with}
-use Rattle.sheet.specs.declared.reading.Reading.{Reading}
-use Rattle.sheet.specs.declared.reading.Reading.TheVariants.{Good}
+use Rattle.sheet.specs.Read.{bad_ends, bad_link, bad_node, bad_field, pressures_fine, unless, with_unknowns, checked, after_scan, read_with, Reading}
 use Rattle.sheet.proofs.Readings.{no_field, right_counts, whole}
 use Rattle.accepted.proofs.Accepts.{good_laid, good_counts, good_checked}
 use Rattle.row_reading.proofs.Same.{served, first_same, options_same, pressures_same, link-same, ends_same, readable-same, records-same, same_before, same_low, same_behind, mark_same}
+use Rattle.std.specs.Prelude.{None, Ok, Option, Some}
 
 starts : (s : List ℕ) → 29 ≤ nodes_at s
 unfolding nodes_at
@@ -135,24 +132,24 @@ module _ (s t : List ℕ) (long : length t ≡ length s)
 
   -- ---- the reading, where the first sheet is good
 
-  module _ (b : Bounds) (l : Layout) (good : read_with b s ≡ Good l) where
-    only-nodes : (f : Found) (r : Reading) → unless (or_else f Nothing) Field r ≡ unless f Field r
-    only-nodes (At p) r = refl
-    only-nodes Nothing r = refl
+  module _ (b : Bounds) (l : Layout) (good : read_with b s ≡ Ok l) where
+    only-nodes : (f : Option ℕ) (r : Reading) → unless (or_else f None) Field r ≡ unless f Field r
+    only-nodes (Some p) r = refl
+    only-nodes None r = refl
 
-    field-same : (h : bad_field b (layout_of s) s ≡ Nothing) → bad_field b (layout_of s) t ≡ or_else (bad_node b (layout_of s) t) Nothing
+    field-same : (h : bad_field b (layout_of s) s ≡ None) → bad_field b (layout_of s) t ≡ or_else (bad_node b (layout_of s) t) None
     unfolding bad_field
     field-same h =
         let f = no_field b (layout_of s) s h in
         rw (options_same s t b (λ p m. before p (omega (arith, starts s))), f.0, fine-same b, f.1, links-same b, f.3)
 
-    checked-same : checked b (layout_of s) s ≡ Good l → checked b (layout_of s) t ≡ unless (bad_node b (layout_of s) t) Field (Good l)
+    checked-same : checked b (layout_of s) s ≡ Ok l → checked b (layout_of s) t ≡ unless (bad_node b (layout_of s) t) Field (Ok l)
     unfolding checked
     checked-same h =
         let d = good_checked b (layout_of s) l s h in
-        rw (field-same d.0, bad_ends_same, d.1, unknowns_same, d.2) (only-nodes (bad_node b (layout_of s) t) (Good l))
+        rw (field-same d.0, bad_ends_same, d.1, unknowns_same, d.2) (only-nodes (bad_node b (layout_of s) t) (Ok l))
 
-    pub reading-same : read_with b t ≡ unless (bad_node b (layout_of s) t) Field (Good l)
+    pub reading-same : read_with b t ≡ unless (bad_node b (layout_of s) t) Field (Ok l)
     reading-same =
         let w = good_laid b s l good in
         let c = good_counts b (layout_of s) l s w.2 in

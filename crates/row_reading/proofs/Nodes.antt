@@ -10,8 +10,6 @@ use Rattle.patterns.specs.Bytes.{from_bytes}
 use Rattle.layout.specs.Places.{node_place}
 use Rattle.layout.specs.declared.places.Layout.{Layout}
 use Rattle.found.specs.Searches.{first_from}
-use Rattle.found.specs.declared.Found.{Found}
-use Rattle.found.specs.declared.Found.TheVariants.{At}
 use Rattle.records.specs.Records.{byte_at}
 use Rattle.fields.specs.Fields.{within, all_within, node_good}
 use Rattle.fields.specs.declared.fields.Bounds.{Bounds}
@@ -20,6 +18,7 @@ use Rattle.sheet.proofs.Laws.{and_left, and_right}
 use Rattle.accepted.proofs.Accepts.{each_within, node_floats}
 use Rattle.row_sheet.specs.RowSheet.{node_found}
 use Rattle.row_reading.proofs.Bytes.{float_same}
+use Rattle.std.specs.Prelude.{Option, Some}
 
 -- ---- what is left of five tests, or of four, where all but one hold
 
@@ -71,7 +70,7 @@ module _ (b : Bounds) (s t : List ℕ) (at : ℕ) (good : node_good b s at ≡ t
 
 -- ---- the search
 
-turn : (l : Layout) (i : ℕ) (x y : Bool) (f g : Found) → x ≡ not y → f ≡ node_found l g → cond x f (At (node_place l i)) ≡ node_found l (cond y (At i) g)
+turn : (l : Layout) (i : ℕ) (x y : Bool) (f g : Option ℕ) → x ≡ not y → f ≡ node_found l g → cond x f (Some (node_place l i)) ≡ node_found l (cond y (Some i) g)
 turn l i x true f g e h = rw e
 turn l i x false f g e h = rw e h
 

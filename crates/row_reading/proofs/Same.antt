@@ -8,8 +8,6 @@ use native.Mathlib.Omega.{arith}
 use lib.ListN.{length, get_or}
 use Rattle.patterns.specs.Bytes.{from_bytes}
 use Rattle.layout.specs.declared.places.Layout.{Layout}
-use Rattle.found.specs.declared.Found.{Found}
-use Rattle.found.specs.declared.Found.TheVariants.{At}
 use Rattle.records.specs.Records.{pair_at}
 use Rattle.nodes.specs.Nodes.{in_service}
 use Rattle.fields.specs.Fields.{all_within, options_good, pressures_good, link_codes, link_numbers, link_good}
@@ -18,6 +16,7 @@ use Rattle.ends.specs.Ends.{ends_good}
 use Rattle.sheet.specs.Scan.{readable, records_from}
 use Rattle.sheet.specs.Read.{first_bad}
 use Rattle.row_reading.proofs.Bytes.{little_same, float_same}
+use Rattle.std.specs.Prelude.{Option, Some}
 
 -- ---- searches whose tests say the same
 
@@ -27,7 +26,7 @@ counted b b' n n' e f = rw (e, f)
 pub served : (b b' : Bool) (n n' : ℕ) → b ≡ b' → n ≡ n' → cond {A = ℕ} b (suc n) n ≡ cond {A = ℕ} b' (suc n') n'
 served b b' n n' e f = rw (e, f)
 
-searched : (b b' : Bool) (f f' : Found) (at : ℕ) → b ≡ b' → f ≡ f' → cond b f (At at) ≡ cond b' f' (At at)
+searched : (b b' : Bool) (f f' : Option ℕ) (at : ℕ) → b ≡ b' → f ≡ f' → cond b f (Some at) ≡ cond b' f' (Some at)
 searched b b' f f' at e g = rw (e, g)
 
 pub first_same : (good good' : ℕ → Bool) (size k at : ℕ) → ((p : ℕ) → at ≤ p → good' p ≡ good p) → first_bad good' size k at ≡ first_bad good size k at

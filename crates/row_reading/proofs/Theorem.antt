@@ -9,12 +9,10 @@ use lib.Ieee.{Float}
 use Rattle.layout.specs.Places.{node_place}
 use Rattle.layout.specs.declared.places.Layout.{Layout}
 use Rattle.found.specs.Searches.{first_of}
-use Rattle.found.specs.declared.Found.{Found}
 use Rattle.fields.specs.Fields.{base_bounds, within, node_good}
 use Rattle.refusals.specs.declared.refusals.Refusal.TheVariants.{Field}
 use Rattle.sheet.specs.Scan.{nodes_at, nodes_of, layout_of}
 use Rattle.sheet.specs.Read.{first_bad, bad_node, unless, with_unknowns, read_of}
-use Rattle.sheet.specs.declared.reading.Reading.TheVariants.{Good}
 use Rattle.accepted.specs.Accepted.{Accepted}
 use Rattle.accepted.proofs.Accepts.{accepts, laid_are}
 use Rattle.row_sheet.specs.RowSheet.{row_sheet, outside, bad_demand}
@@ -24,6 +22,7 @@ use Rattle.row_reading.proofs.Bytes.{row_kept, row_back}
 use Rattle.row_reading.proofs.Same.{same_high}
 use Rattle.row_reading.proofs.Layouts.{reading-same}
 use Rattle.row_reading.proofs.Nodes.{but_demand, bad_first}
+use Rattle.std.specs.Prelude.{Ok, Option}
 
 twice : (b : Bool) → b ≡ not (not b)
 twice true = refl
@@ -43,7 +42,7 @@ node_search : (s t : List ℕ) (l : Layout) → bad_node base_bounds (with_unkno
 unfolding bad_node with_unknowns
 node_search s t l = refl
 
-module _ (s : List ℕ) (l : Layout) (table : List Float) (r : ℕ) (good : read_of s ≡ Good l) (fit : AllFit table) where
+module _ (s : List ℕ) (l : Layout) (table : List Float) (r : ℕ) (good : read_of s ≡ Ok l) (fit : AllFit table) where
   a : Accepted base_bounds s l
   unfolding read_of
   a = accepts base_bounds s l good
@@ -85,7 +84,7 @@ module _ (s : List ℕ) (l : Layout) (table : List Float) (r : ℕ) (good : read
   reads =
       let e : bad_node base_bounds (layout_of s) t ≡ bad_demand l table r =
       sym (node_search s t (layout_of s)) ∙ ap (λ (k : Layout). bad_node base_bounds k t) (sym a.laid) ∙ nodes_bad in
-      reading-same s t (row_long s l table r) kept_at base_bounds l good ∙ ap (λ (f : Found). unless f Field (Good l)) e
+      reading-same s t (row_long s l table r) kept_at base_bounds l good ∙ ap (λ (f : Option ℕ). unless f Field (Ok l)) e
 
 pub row_reads : RowReads
 row_reads = reads

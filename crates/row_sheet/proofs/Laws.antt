@@ -1,21 +1,14 @@
--- One byte put, one demand put, that the sheet stays as long as it was, and the search for a bad demand. Assumes nothing.
-use Prim.Native.Nat.{ℕ, zero, suc, ◌+◌, ◌-◌, ◌*◌, ◌/◌, ◌%◌, ◌≤◌, ◌<◌}
+-- One byte put, one demand put, and that the sheet stays as long as it was. Assumes nothing.
+use Prim.Native.Nat.{ℕ, zero, suc, ◌+◌, ◌-◌, ◌*◌, ◌/◌, ◌%◌, ◌<◌}
 use mathlib.Core.Path.{◌≡◌, refl, ap, ◌∙◌, subst}
-use mathlib.Core.Bool.{true, false, not}
 use mathlib.Core.List.{List}
 use native.Mathlib.Numerals.{add-one}
 use native.Mathlib.Omega.{arith}
 use lib.ListN.{length, get_or, set, length-set}
-use lib.Ieee.{Float, nan, binary64, to_bits, le}
-use Rattle.float.specs.Sign.{abs_of}
-use Rattle.found.specs.Searches.{first_from, first_of}
-use Rattle.found.proofs.Firsts.{first_start, first_end, first-here, first_on}
-use Rattle.found.specs.declared.Found.TheVariants.{At, Nothing}
-use Rattle.fields.specs.Fields.{base_bounds, within}
-use Rattle.fields.specs.declared.fields.Bounds.{Bounds}
+use lib.Ieee.{Float, nan, binary64, to_bits}
 use Rattle.layout.specs.Places.{Laid, node_place}
 use Rattle.layout.specs.declared.places.Layout.{Layout}
-use Rattle.row_sheet.specs.RowSheet.{number_put, demands_put, row_sheet, outside, node_found, bad_demand}
+use Rattle.row_sheet.specs.RowSheet.{number_put, demands_put, row_sheet}
 
 pub number_long : (k : ℕ) (s : List ℕ) (at number : ℕ) → length (number_put k s at number) ≡ length s
 unfolding number_put
@@ -65,26 +58,3 @@ demands_all i s₀ s l table r h e = e ∙ ap (λ (k : ℕ). demands_put k s₀ 
 -- a sheet of the same length is laid out too
 pub laid_long : (l : Layout) (s s' : List ℕ) → length s' ≡ length s → Laid l s → Laid l s'
 laid_long l s s' e laid = record { options = laid.options; nodes = omega (arith, laid.nodes); links = omega (arith, laid.links); stride = laid.stride }
-
--- ---- the search for a bad demand
-
-pub bad_start : (l : Layout) (table : List Float) (r k : ℕ) → k ≡ l.nodes → first_from (outside l table r) k 0 ≡ first_of (outside l table r) l.nodes
-bad_start l table r k e = first_start (outside l table r) l.nodes k e
-
--- what the test of node i said, as the code tests it
-module _ (l : Layout) (table : List Float) (r i : ℕ) (y : Float) (b : Bounds) (size : y ≡ abs_of (get_or table (r * l.nodes + i) nan)) (bounds : b ≡ base_bounds)
-    (left : first_from (outside l table r) (l.nodes - i) i ≡ first_of (outside l table r) l.nodes) (more : i < l.nodes) where
-  tested : not (le y b.magnitude) ≡ outside l table r i
-  unfolding outside within
-  tested = rw (size, bounds)
-
-  pub bad_here : (place : ℕ) → not (le y b.magnitude) ≡ true → place ≡ node_place l i → At place ≡ bad_demand l table r
-  unfolding bad_demand
-  bad_here place h e = ap At e ∙ ap (node_found l) (first-here (outside l table r) l.nodes i _ left _ tested more h)
-
-  pub bad_on : not (le y b.magnitude) ≡ false → first_from (outside l table r) (l.nodes - (i + 1)) (i + 1) ≡ first_of (outside l table r) l.nodes
-  bad_on h = first_on (outside l table r) l.nodes i _ left _ tested more h
-
-pub bad_none : (l : Layout) (table : List Float) (r i : ℕ) → first_from (outside l table r) (l.nodes - i) i ≡ first_of (outside l table r) l.nodes → l.nodes ≤ i → Nothing ≡ bad_demand l table r
-unfolding bad_demand
-bad_none l table r i left h = ap (node_found l) (first_end (outside l table r) l.nodes i _ left h)

@@ -1,12 +1,10 @@
 -- A sheet with a row of demands in it: each node's demand field, and no other byte; and the demands that no sheet may hold. Definitions only.
-use Rattle.std.specs.Prelude.{ℕ, zero, suc, ◌+◌, ◌*◌, ◌/◌, ◌%◌, Bool, not, List, get_or, set, Float}
+use Rattle.std.specs.Prelude.{ℕ, zero, suc, ◌+◌, ◌*◌, ◌/◌, ◌%◌, Bool, not, List, get_or, set, Float, None, Option, Some}
 use Rattle.std.specs.Float.{nan, binary64}
 use Rattle.std.specs.Float.Ieee.{to_bits}
 use Rattle.layout.specs.Places.{node_place}
 use Rattle.layout.specs.declared.places.Layout.{Layout}
 use Rattle.found.specs.Searches.{first_of}
-use Rattle.found.specs.declared.Found.{Found}
-use Rattle.found.specs.declared.Found.TheVariants.{At, Nothing}
 use Rattle.fields.specs.Fields.{base_bounds, within}
 
 -- the k bytes of a number from `at` on, the lowest byte first
@@ -32,11 +30,11 @@ unfoldable pub outside : Layout → List Float → ℕ → ℕ → Bool
 outside l table r i = not (within base_bounds (get_or table (r * l.nodes + i) nan))
 
 -- the place of a node that was found
-abbrev pub node_found : Layout → Found → Found
-node_found l (At i) = At (node_place l i)
-node_found l Nothing = Nothing
+abbrev pub node_found : Layout → Option ℕ → Option ℕ
+node_found l (Some i) = Some (node_place l i)
+node_found l None = None
 
 -- the place of the first node whose demand in row r is not
-unfoldable pub bad_demand : Layout → List Float → ℕ → Found
+unfoldable pub bad_demand : Layout → List Float → ℕ → Option ℕ
 unfolding outside
 bad_demand l table r = node_found l (first_of (outside l table r) l.nodes)

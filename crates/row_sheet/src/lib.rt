@@ -7,9 +7,9 @@ ghost use Rattle.row_sheet.specs.RowSheet.{number_put, row_sheet, bad_demand};
 
 use fields::base_bounds;
 use float::abs;
-use found::Found;
 use layout::{Layout, node_place};
 use patterns::pattern;
+use search::first_where;
 
 // The eight bytes of a number from `at` on, the lowest byte first.
 fn put_number(sheet: &mut [u8], at: usize, number: u64)
@@ -39,18 +39,13 @@ pub fn put_row(sheet: &mut [u8], l: Layout, table: &[f64], r: usize)
 }
 
 // The place of the first node whose demand in row r of the table is not within document 01's bounds.
-pub fn bad_demand(l: Layout, table: &[f64], r: usize) -> Found
+pub fn bad_demand(l: Layout, table: &[f64], r: usize) -> Option<usize>
     requires nodes_bound { node_place l l.nodes < 2 ^ 64 }
     requires nodes_bound_2 { (l.nodes ≤ 64) × (r ≤ 31) × (r * l.nodes + l.nodes ≤ length table.now) }
     ensures { result ≡ bad_demand l table.now r }
 {
-    let bounds = base_bounds();
-    let largest = bounds.magnitude;
+    let largest = base_bounds().magnitude;
     let first = r * l.nodes;
-    for i in 0..l.nodes {
-        if !(abs(table[first + i]) <= largest) {
-            return Found::At(node_place(l, i));
-        }
-    }
-    Found::Nothing
+    let i = first_where(l.nodes, |i| !(abs(table[first + i]) <= largest))?;
+    Some(node_place(l, i))
 }

@@ -14,7 +14,7 @@ pub fn add_to_row(row: Row, x: f64, rhs: &mut [f64])
     requires row_below { RowBelow 64 row }
     ensures { rhs.new ≡ on_row row x rhs.old }
 {
-    let Row::Unknown(u) = row else {
+    let Some(u) = row else {
         return;
     };
     add_to(rhs, u.0, x);
@@ -25,7 +25,7 @@ pub fn take_from_row(row: Row, x: f64, rhs: &mut [f64])
     requires row_below { RowBelow 64 row }
     ensures { rhs.new ≡ off_row row x rhs.old }
 {
-    let Row::Unknown(u) = row else {
+    let Some(u) = row else {
         return;
     };
     take_from(rhs, u.0, x);
@@ -36,7 +36,7 @@ pub fn add_to_diagonal(row: Row, x: f64, matrix: &mut [f64])
     requires row_below { RowBelow 64 row }
     ensures { matrix.new ≡ on_diagonal row x matrix.old }
 {
-    let Row::Unknown(u) = row else {
+    let Some(u) = row else {
         return;
     };
     let i = u.0;
@@ -50,10 +50,10 @@ pub fn take_between(start: Row, end: Row, x: f64, matrix: &mut [f64])
     requires row_below_2 { RowBelow 64 end }
     ensures { matrix.new ≡ off_between start end x matrix.old }
 {
-    let Row::Unknown(u) = start else {
+    let Some(u) = start else {
         return;
     };
-    let Row::Unknown(v) = end else {
+    let Some(v) = end else {
         return;
     };
     let i = u.0;

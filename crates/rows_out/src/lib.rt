@@ -2,22 +2,32 @@
 // of its verdict, and its listing; or the one `A` line of a call that was refused; then a line `--`.
 #![tactic(auto)]
 
-ghost use Rattle.std.specs.Prelude.{◌*◌, ◌≤◌, ◌<◌, length};
+ghost use Rattle.std.specs.Prelude.{◌≡◌, ◌*◌, ◌≤◌, ◌<◌, length};
 
 use answers::Answer;
-use rowwise::{Called, Judging};
-use sheet::Reading;
 use std::io;
 use std::io::{Read, Write};
+use tolerance::Limits;
 
-// How many nodes, links, trials and rows there are, and whether each row has a verdict.
+// How many nodes and links a sheet has, and trials at most.
 #[derive(Clone, Copy)]
 struct Sizes {
     nodes: usize,
     links: usize,
     trials: usize,
-    rows: usize,
-    judged: bool,
+    ghost few: { (nodes ≤ 64) × (links ≤ 128) × (trials ≤ 200) },
+}
+
+// The rows' results, one row behind the other, with room for 32 rows of any sheet.
+#[derive(Clone, Copy)]
+struct Results {
+    heads: [f64; 2048],
+    demands: [f64; 2048],
+    flows: [f64; 4096],
+    statuses: [u8; 4096],
+    entries: [u8; 25600],
+    counts: [u64; 224],
+    totals: [f64; 96],
 }
 
 // Too little was read, or too much was announced: a line `X`, which is the last.
@@ -26,44 +36,10 @@ fn refuse<W: Write>(writer: &mut W) -> io::Result<bool> {
     Ok(false)
 }
 
-fn end<W: Write>(writer: &mut W) -> io::Result<()> {
-    standard::put(writer, b"--\n")
-}
-
-fn is_judged(judging: Judging) -> bool {
-    match judging {
-        Judging::Off => false,
-        Judging::By(_) => true,
-    }
-}
-
-// How many counts a row has.
-fn width(judged: bool) -> usize
-    ensures { result ≤ 7 }
-{
-    if judged {
-        return 7;
-    }
-    5
-}
-
-// The one line of a call that was refused.
-fn tell_call<W: Write>(writer: &mut W, called: Called) -> io::Result<()> {
-    let mut out = [0u8; 128];
-    let n = text::answer_line(called.number, called.place, 0, 0, 0, &mut out, 0);
-    if n <= 128 {
-        standard::put(writer, &out[..n])?;
-    }
-    Ok(())
-}
-
 fn tell_number<W: Write>(writer: &mut W, r: usize) -> io::Result<()> {
-    let mut out = [0u8; 64];
-    out[0] = b'R';
-    let p = words::put_number(r, &mut out, 1);
-    out[p] = b'\n';
-    let end = p + 1;
-    standard::put(writer, &out[..end])
+    standard::put(writer, b"R ")?;
+    standard::put_decimal(writer, r as u64)?;
+    standard::put(writer, b"\n")
 }
 
 // A row's answer, from its counts and totals.
@@ -82,153 +58,87 @@ fn answer_of(counts: &[u64], totals: &[f64]) -> Answer
     }
 }
 
-fn tell_verdict<W: Write>(writer: &mut W, counts: &[u64]) -> io::Result<()>
-    requires { 7 ≤ length counts.now }
-{
-    let mut out = [0u8; 64];
-    let n = verdict_line::verdict_line(counts[5] as usize, counts[6] as usize, &mut out, 0);
-    standard::put(writer, &out[..n])
-}
-
-fn tell_listing<W: Write>(
-    writer: &mut W,
-    sheet: &[u8],
-    a: Answer,
-    heads: &[f64],
-    demands: &[f64],
-    flows: &[f64],
-    statuses: &[u8],
-    entries: &[u8],
-) -> io::Result<()>
-    requires { (64 ≤ length heads.now) × (64 ≤ length demands.now) × (128 ≤ length flows.now) × (128 ≤ length statuses.now) × (800 ≤ length entries.now) }
-{
-    if 200 < a.trials {
-        return Ok(());
-    }
-    let mut out = [0u8; 65536];
-    let n = listing_text::tell(sheet, a, heads, demands, flows, statuses, entries, &mut out);
-    standard::put(writer, &out[..n])
-}
-
-// One row, from its part of every buffer.
-fn tell_row<W: Write>(
-    writer: &mut W,
-    sheet: &[u8],
-    judged: bool,
-    heads: &[f64],
-    demands: &[f64],
-    flows: &[f64],
-    statuses: &[u8],
-    entries: &[u8],
-    counts: &[u64],
-    totals: &[f64],
-) -> io::Result<()>
-    requires { (64 ≤ length heads.now) × (64 ≤ length demands.now) × (128 ≤ length flows.now) × (128 ≤ length statuses.now) × (800 ≤ length entries.now) × (7 ≤ length counts.now) × (3 ≤ length totals.now) }
-{
-    if judged {
-        tell_verdict(writer, counts)?;
-    }
-    tell_listing(
-        writer,
-        sheet,
-        answer_of(counts, totals),
-        heads,
-        demands,
-        flows,
-        statuses,
-        entries,
-    )
-}
-
-fn tell_rows<W: Write>(
-    writer: &mut W,
-    sheet: &[u8],
-    s: Sizes,
-    heads: &[f64],
-    demands: &[f64],
-    flows: &[f64],
-    statuses: &[u8],
-    entries: &[u8],
-    counts: &[u64],
-    totals: &[f64],
-) -> io::Result<()>
-    requires { (2048 ≤ length heads.now) × (2048 ≤ length demands.now) × (4096 ≤ length flows.now) × (4096 ≤ length statuses.now) × (25600 ≤ length entries.now) × (224 ≤ length counts.now) × (96 ≤ length totals.now) }
-{
-    let nodes = s.nodes;
-    let links = s.links;
-    let trials = s.trials;
-    let rows = s.rows;
-    let judged = s.judged;
-    if 64 < nodes {
-        return Ok(());
-    }
-    if 128 < links {
-        return Ok(());
-    }
-    if 200 < trials {
-        return Ok(());
-    }
-    if 32 < rows {
-        return Ok(());
-    }
-    let wide = width(judged);
-    for r in 0..rows {
-        let n = r * nodes;
-        let k = r * links;
-        let e = r * (4 * trials);
-        let c = r * wide;
-        let t = 3 * r;
-        tell_number(writer, r)?;
-        tell_row(
-            writer,
-            sheet,
-            judged,
-            &heads[n..],
-            &demands[n..],
-            &flows[k..],
-            &statuses[k..],
-            &entries[e..],
-            &counts[c..],
-            &totals[t..],
-        )?;
-    }
-    Ok(())
-}
-
-// The rows of an evening that was solved, by the sizes that its sheet gives.
-fn tell_solved<W: Write>(
-    writer: &mut W,
-    sheet: &[u8],
-    judged: bool,
-    rows: usize,
-    heads: &[f64],
-    demands: &[f64],
-    flows: &[f64],
-    statuses: &[u8],
-    entries: &[u8],
-    counts: &[u64],
-    totals: &[f64],
-) -> io::Result<()>
-    requires { (2048 ≤ length heads.now) × (2048 ≤ length demands.now) × (4096 ≤ length flows.now) × (4096 ≤ length statuses.now) × (25600 ≤ length entries.now) × (224 ≤ length counts.now) × (96 ≤ length totals.now) }
-{
+fn sizes_of(sheet: &[u8]) -> Option<Sizes> {
     match sheet::read(sheet) {
-        Reading::Good(l) => {
+        Ok(l) => {
             if sheet.len() < 29 {
-                return Ok(());
+                return None;
             }
             let options = records::options_of(sheet);
-            let s = Sizes {
+            let trials = options.trials;
+            if 64 < l.nodes || 128 < l.links || 200 < trials {
+                return None;
+            }
+            Some(Sizes {
                 nodes: l.nodes,
                 links: l.links,
-                trials: options.trials,
-                rows,
-                judged,
-            };
-            tell_rows(
-                writer, sheet, s, heads, demands, flows, statuses, entries, counts, totals,
-            )
+                trials,
+            })
         }
-        Reading::Refused(_) => Ok(()),
+        Err(_) => None,
+    }
+}
+
+// So many entries of a buffer, from where row r starts: each row before it took so many of them.
+fn row_of<T>(buffer: &[T], r: usize, each: usize, room: usize) -> &[T]
+    requires { (r < 32) × (each ≤ room) × (32 * room ≤ length buffer.now) }
+    ensures { length result.now ≡ room }
+{
+    let at = r * each;
+    &buffer[at..at + room]
+}
+
+impl Results {
+    fn tell_row<W: Write>(
+        &self,
+        writer: &mut W,
+        sheet: &[u8],
+        s: Sizes,
+        judged: bool,
+        r: usize,
+    ) -> io::Result<()>
+        requires { r < 32 }
+    {
+        let counts = row_of(&self.counts, r, if judged { 7 } else { 5 }, 7);
+        tell_number(writer, r)?;
+        if judged {
+            standard::put_verdict(writer, counts[5] as usize, counts[6] as usize)?;
+        }
+        let a = answer_of(counts, row_of(&self.totals, r, 3, 3));
+        if 200 < a.trials {
+            return Ok(());
+        }
+        let mut out = [0u8; 65536];
+        let n = listing_text::tell(
+            sheet,
+            a,
+            row_of(&self.heads, r, s.nodes, 64),
+            row_of(&self.demands, r, s.nodes, 64),
+            row_of(&self.flows, r, s.links, 128),
+            row_of(&self.statuses, r, s.links, 128),
+            row_of(&self.entries, r, 4 * s.trials, 800),
+            &mut out,
+        );
+        standard::put(writer, &out[..n])
+    }
+
+    fn tell<W: Write>(
+        &self,
+        writer: &mut W,
+        sheet: &[u8],
+        judged: bool,
+        rows: usize,
+    ) -> io::Result<()> {
+        let Some(s) = sizes_of(sheet) else {
+            return Ok(());
+        };
+        if 32 < rows {
+            return Ok(());
+        }
+        for r in 0..rows {
+            self.tell_row(writer, sheet, s, judged, r)?;
+        }
+        Ok(())
     }
 }
 
@@ -236,98 +146,38 @@ fn tell_solved<W: Write>(
 fn show<W: Write>(
     writer: &mut W,
     sheet: &[u8],
-    judging: Judging,
+    judging: Option<Limits>,
     rows: usize,
     table: &[f64],
 ) -> io::Result<()> {
-    let mut heads = [0.0f64; 2048];
-    let mut demands = [0.0f64; 2048];
-    let mut flows = [0.0f64; 4096];
-    let mut statuses = [0u8; 4096];
-    let mut entries = [0u8; 25600];
-    let mut counts = [0u64; 224];
-    let mut totals = [0.0f64; 96];
+    let mut results = Results {
+        heads: [0.0; 2048],
+        demands: [0.0; 2048],
+        flows: [0.0; 4096],
+        statuses: [0; 4096],
+        entries: [0; 25600],
+        counts: [0; 224],
+        totals: [0.0; 96],
+    };
     let mut scratch = [0.0f64; 4096];
     let called = rowwise::solve_evening(
         sheet,
         judging,
         rows,
         table,
-        &mut heads,
-        &mut demands,
-        &mut flows,
-        &mut statuses,
-        &mut entries,
-        &mut counts,
-        &mut totals,
+        &mut results.heads,
+        &mut results.demands,
+        &mut results.flows,
+        &mut results.statuses,
+        &mut results.entries,
+        &mut results.counts,
+        &mut results.totals,
         &mut scratch,
     );
     if called.number != 0 {
-        return tell_call(writer, called);
+        return standard::put_refusal(writer, called.number, called.place);
     }
-    tell_solved(
-        writer,
-        sheet,
-        is_judged(judging),
-        rows,
-        &heads,
-        &demands,
-        &flows,
-        &statuses,
-        &entries,
-        &counts,
-        &totals,
-    )
-}
-
-// The number of the first four bytes.
-fn number_in(head: &[u8]) -> u64
-    requires { 4 ≤ length head.now }
-{
-    patterns::two_bytes(head, 0) + 65536 * patterns::two_bytes(head, 2)
-}
-
-// A table of so many f64s, from their bytes.
-fn shown<W: Write>(
-    writer: &mut W,
-    sheet: &[u8],
-    judging: Judging,
-    rows: usize,
-    bytes: &[u8],
-    count: usize,
-) -> io::Result<bool>
-    requires { count ≤ 4096 }
-{
-    if bytes.len() < 8 * count {
-        return refuse(writer);
-    }
-    let mut table = [0.0f64; 4096];
-    for i in 0..count {
-        table[i] = patterns::from_bytes(bytes, 8 * i);
-    }
-    show(writer, sheet, judging, rows, &table[..count])?;
-    end(writer)?;
-    Ok(true)
-}
-
-// A table of so many f64s, read as bytes, or false where the input ends before.
-fn table_in<R: Read, W: Write>(
-    reader: &mut R,
-    writer: &mut W,
-    sheet: &[u8],
-    judging: Judging,
-    rows: usize,
-    bytes: &mut [u8],
-    count: usize,
-) -> io::Result<bool>
-    requires { (count ≤ 4096) × (8 * count ≤ length bytes.old) }
-{
-    let most = 8 * count;
-    let read = standard::fill(reader, &mut bytes[..most])?;
-    if read < most {
-        return refuse(writer);
-    }
-    shown(writer, sheet, judging, rows, bytes, count)
+    results.tell(writer, sheet, judging.is_some(), rows)
 }
 
 // Reads the table behind an evening's sheet, the number of its entries first and then the entries as f64s, solves
@@ -337,26 +187,26 @@ pub fn show_rows<R: Read, W: Write>(
     reader: &mut R,
     writer: &mut W,
     sheet: &[u8],
-    judging: Judging,
+    judging: Option<Limits>,
     rows: usize,
 ) -> io::Result<bool> {
     let mut head = [0u8; 4];
-    let read = standard::fill(reader, &mut head)?;
-    if read < 4 {
+    if standard::fill(reader, &mut head)? < 4 {
         return refuse(writer);
     }
-    let count = number_in(&head);
+    let count = standard::four_bytes(&head, 0) as usize;
     if 4096 < count {
         return refuse(writer);
     }
-    let mut bytes = [0u8; 65536];
-    table_in(
-        reader,
-        writer,
-        sheet,
-        judging,
-        rows,
-        &mut bytes,
-        count as usize,
-    )
+    let mut bytes = [0u8; 32768];
+    if standard::fill(reader, &mut bytes[..8 * count])? < 8 * count {
+        return refuse(writer);
+    }
+    let mut table = [0.0f64; 4096];
+    for i in 0..count {
+        table[i] = patterns::from_bytes(&bytes, 8 * i);
+    }
+    show(writer, sheet, judging, rows, &table[..count])?;
+    standard::put(writer, b"--\n")?;
+    Ok(true)
 }

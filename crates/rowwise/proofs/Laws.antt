@@ -14,16 +14,12 @@ use lib.Ieee.{Float}
 use Rattle.layout.specs.Places.{heading, link_place}
 use Rattle.layout.proofs.Laws.{at_most}
 use Rattle.layout.specs.declared.places.Layout.{Layout}
-use Rattle.found.specs.declared.Found.{Found}
-use Rattle.found.specs.declared.Found.TheVariants.{At, Nothing}
 use Rattle.fields.specs.Fields.{base_bounds}
 use Rattle.refusals.specs.Refusals.{number_of, place_of}
 use Rattle.refusals.specs.declared.refusals.Refusal.{Refusal}
 use Rattle.refusals.specs.declared.refusals.Refusal.TheVariants.{Field}
 use Rattle.sheet.specs.Scan.{has_pressures, nodes_of, layout_of}
-use Rattle.sheet.specs.Read.{read_of, with_unknowns}
-use Rattle.sheet.specs.declared.reading.Reading.{Reading}
-use Rattle.sheet.specs.declared.reading.Reading.TheVariants.{Good, Refused}
+use Rattle.sheet.specs.Read.{read_of, with_unknowns, Reading}
 use Rattle.accepted.proofs.Accepts.{accepts}
 use Rattle.columns.specs.Columns.{copied}
 use Rattle.row_sheet.specs.RowSheet.{row_sheet, bad_demand}
@@ -38,12 +34,11 @@ use Rattle.solver.specs.Solve.{trials_of, solve_of}
 use Rattle.solver.proofs.Laws.{solve_refused}
 use Rattle.sale.specs.Sale.{Sale, sale_of}
 use Rattle.sale.proofs.Laws.{sale_refused}
-use Rattle.rowwise.specs.declared.single.Judging.{Judging}
-use Rattle.rowwise.specs.declared.single.Judging.TheVariants.{Off, By}
 use Rattle.rowwise.specs.declared.admitting.Called.{Called}
 use Rattle.rowwise.specs.declared.admitting.Lengths.{Lengths}
 use Rattle.rowwise.specs.Rooms.{Lends, lends, lent_of, lengths_of, row_in, row_put, room_of, room_put, Fits}
 use Rattle.rowwise.specs.Evening.{width_of, counts_put, verdict_put, totals_put, row_of, refused_counts, row_done, rows_done, called, lacking, admitted_of, Evening, after_admitted, after_read, evening_of}
+use Rattle.std.specs.Prelude.{Err, None, Ok, Option, Some}
 
 -- the product of a few and a few
 pub product_few : {m n : ℕ} (a b : ℕ) → m ≤ a → n ≤ b → m * n ≤ a * b
@@ -51,58 +46,58 @@ product_few a b h k = mul-le-mul h k
 
 -- ---- one row
 
-pub wide : (j : Judging) → 5 ≤ width_of j
+pub wide : (j : Option Limits) → 5 ≤ width_of j
 unfolding width_of
-wide Off = omega arith
-wide (By limits) = omega arith
+wide None = omega arith
+wide (Some limits) = omega arith
 
-pub wide_by : (j : Judging) (limits : Limits) → j ≡ By limits → 7 ≡ width_of j
+pub wide_by : (j : Option Limits) (limits : Limits) → j ≡ Some limits → 7 ≡ width_of j
 unfolding width_of
 wide_by j limits e = rw e
 
-pub row_off : (j : Judging) (s : List ℕ) (b : Lends) (o : Solved) (n : List ℕ) (t : List Float) → j ≡ Off → o ≡ solve_of s (lent_of b)
+pub row_off : (j : Option Limits) (s : List ℕ) (b : Lends) (o : Solved) (n : List ℕ) (t : List Float) → j ≡ None → o ≡ solve_of s (lent_of b)
     → n ≡ counts_put o.answer b.counts → t ≡ totals_put o.answer b.totals
     → lends o.lent.heads o.lent.demands o.lent.flows o.lent.statuses o.lent.entries n t o.lent.scratch ≡ row_of j s b
 unfolding row_of
 row_off j s b o n t ej eo en et = rw (ej, ← eo, en, et)
 
-pub row_by : (j : Judging) (s : List ℕ) (limits : Limits) (b : Lends) (o : Sale) (n n' : List ℕ) (t : List Float) → j ≡ By limits → o ≡ sale_of s limits (lent_of b)
+pub row_by : (j : Option Limits) (s : List ℕ) (limits : Limits) (b : Lends) (o : Sale) (n n' : List ℕ) (t : List Float) → j ≡ Some limits → o ≡ sale_of s limits (lent_of b)
     → n ≡ counts_put o.answer b.counts → t ≡ totals_put o.answer b.totals → n' ≡ verdict_put o.verdict n
     → lends o.lent.heads o.lent.demands o.lent.flows o.lent.statuses o.lent.entries n' t o.lent.scratch ≡ row_of j s b
 unfolding row_of
 row_by j s limits b o n n' t ej eo en et ev = rw (ej, ← eo, ev, en, et)
 
 -- a sheet that is refused with 3
-solve_field : (s : List ℕ) (place : ℕ) (b : Lent) → read_of s ≡ Refused (Field place) → record { answer = failed_of 3 place none; lent = b } ≡ solve_of s b
+solve_field : (s : List ℕ) (place : ℕ) (b : Lent) → read_of s ≡ Err (Field place) → record { answer = failed_of 3 place none; lent = b } ≡ solve_of s b
 unfolding number_of place_of
 solve_field s place b e = solve_refused repair_of s b (read_of s) refl (failed_of 3 place none) (Field place) e refl
 
-sale_field : (s : List ℕ) (limits : Limits) (place : ℕ) (b : Lent) → read_of s ≡ Refused (Field place)
+sale_field : (s : List ℕ) (limits : Limits) (place : ℕ) (b : Lent) → read_of s ≡ Err (Field place)
     → ◌≡◌ {A = Sale} (record { answer = failed_of 3 place none; verdict = record { number = 1; place = 3 }; lent = b }) (sale_of s limits b)
 unfolding number_of place_of failed_of
 sale_field s limits place b e = sale_refused s limits b (read_of s) (failed_of 3 place none) (record { number = 1; place = 3 }) (Field place) refl e refl refl
 
-pub row_refused : (j : Judging) (s : List ℕ) (place : ℕ) (b : Lends) (n : List ℕ) (t : List Float) → read_of s ≡ Refused (Field place) → n ≡ refused_counts j place b.counts
+pub row_refused : (j : Option Limits) (s : List ℕ) (place : ℕ) (b : Lends) (n : List ℕ) (t : List Float) → read_of s ≡ Err (Field place) → n ≡ refused_counts j place b.counts
     → t ≡ totals_put (failed_of 3 place none) b.totals → lends b.heads b.demands b.flows b.statuses b.entries n t b.scratch ≡ row_of j s b
 unfolding refused_counts
-row_refused Off s place b n t e en et = row_off Off s b _ n t refl (solve_field s place (lent_of b) e) en et
-row_refused (By limits) s place b n t e en et = row_by (By limits) s limits b _ _ n t refl (sale_field s limits place (lent_of b) e) refl et en
+row_refused None s place b n t e en et = row_off None s b _ n t refl (solve_field s place (lent_of b) e) en et
+row_refused (Some limits) s place b n t e en et = row_by (Some limits) s limits b _ _ n t refl (sale_field s limits place (lent_of b) e) refl et en
 
 -- what a refused row tells
 number_three : (place : ℕ) → (failed_of 3 place none).number ≡ 3
 unfolding failed_of
 number_three place = refl
 
-module _ (j : Judging) (place : ℕ) (a : Answer) (ea : a ≡ failed_of (number_of (Field place)) (place_of (Field place)) none) where
+module _ (j : Option Limits) (place : ℕ) (a : Answer) (ea : a ≡ failed_of (number_of (Field place)) (place_of (Field place)) none) where
   refused_answer : a ≡ failed_of 3 place none
   unfolding number_of place_of
   refused_answer = ea
 
-  pub refused_off : (x n : List ℕ) → j ≡ Off → n ≡ counts_put a x → n ≡ refused_counts j place x
+  pub refused_off : (x n : List ℕ) → j ≡ None → n ≡ counts_put a x → n ≡ refused_counts j place x
   unfolding refused_counts
   refused_off x n ej en = rw (ej, ← refused_answer) en
 
-  pub refused_by : (limits : Limits) (x n n' : List ℕ) → j ≡ By limits → n ≡ counts_put a x → n' ≡ verdict_put (record { number = 1; place = a.number }) n → n' ≡ refused_counts j place x
+  pub refused_by : (limits : Limits) (x n n' : List ℕ) → j ≡ Some limits → n ≡ counts_put a x → n' ≡ verdict_put (record { number = 1; place = a.number }) n → n' ≡ refused_counts j place x
   unfolding refused_counts
   refused_by limits x n n' ej en ev =
       let three : a.number ≡ 3 = ap (λ (y : Answer). y.number) refused_answer ∙ number_three place in
@@ -112,18 +107,18 @@ module _ (j : Judging) (place : ℕ) (a : Answer) (ea : a ≡ failed_of (number_
   refused_totals x t e = rw (← refused_answer) e
 
 -- a sheet by whether a bad demand was found
-pub found_bad : (s : List ℕ) (l : Layout) (bad : Found) (place : ℕ) → read_of s ≡ unless_bad bad l → bad ≡ At place → read_of s ≡ Refused (Field place)
+pub found_bad : (s : List ℕ) (l : Layout) (bad : Option ℕ) (place : ℕ) → read_of s ≡ unless_bad bad l → bad ≡ Some place → read_of s ≡ Err (Field place)
 unfolding unless_bad
 found_bad s l bad place e h = rw h at e
 
-pub found_none : (s : List ℕ) (l : Layout) (bad : Found) → read_of s ≡ unless_bad bad l → bad ≡ Nothing → read_of s ≡ Good l
+pub found_none : (s : List ℕ) (l : Layout) (bad : Option ℕ) → read_of s ≡ unless_bad bad l → bad ≡ None → read_of s ≡ Ok l
 unfolding unless_bad
 found_none s l bad e h = rw h at e
 
-pub few_counts : (j : Judging) → width_of j ≤ 7
+pub few_counts : (j : Option Limits) → width_of j ≤ 7
 unfolding width_of
-few_counts Off = omega arith
-few_counts (By limits) = omega arith
+few_counts None = omega arith
+few_counts (Some limits) = omega arith
 
 -- ---- rooms
 
@@ -216,7 +211,7 @@ whole_copy s copy e =
     let p : drop (length s) copy ≡ [] = drop_of_length-le copy {i = length s} (omega arith) in
     rw (take-length s, p) (append-nil s)
 
-pub row_done_lem : (j : Judging) (s : List ℕ) (l : Layout) (table : List Float) (r trials width zn zl ze zc zt : ℕ) (b y : Lends) (copy copy' : List ℕ)
+pub row_done_lem : (j : Option Limits) (s : List ℕ) (l : Layout) (table : List Float) (r trials width zn zl ze zc zt : ℕ) (b y : Lends) (copy copy' : List ℕ)
     → trials ≡ trials_of s → width ≡ width_of j → zn ≡ l.nodes → zl ≡ l.links → ze ≡ 4 * trials → zc ≡ width → zt ≡ 3
     → copy ≡ s → copy' ≡ row_sheet copy l table r
     → y ≡ row_of j copy' (lends (take zn (drop (r * l.nodes) b.heads)) (take zn (drop (r * l.nodes) b.demands)) (take zl (drop (r * l.links) b.flows))
@@ -237,23 +232,23 @@ row_done_lem j s l table r trials width zn zl ze zc zt b y copy copy' et ew en e
     rw (en, el, ee, ec, ez, et, ew, ← q)
 
 -- what the copy reads as once the row's demands stand in it
-pub row_read : (s copy copy' : List ℕ) (l : Layout) (table : List Float) (r : ℕ) (bad : Found) → read_of s ≡ Good l → AllFit table → bad ≡ bad_demand l table r
+pub row_read : (s copy copy' : List ℕ) (l : Layout) (table : List Float) (r : ℕ) (bad : Option ℕ) → read_of s ≡ Ok l → AllFit table → bad ≡ bad_demand l table r
     → copy ≡ s → copy' ≡ row_sheet copy l table r → read_of copy' ≡ unless_bad bad l
 unfolding row_reading
 row_read s copy copy' l table r bad good fit eb es ep =
-    ap read_of (ep ∙ ap (λ (x : List ℕ). row_sheet x l table r) es) ∙ row_reads s l table r good fit ∙ ap (λ (f : Found). unless_bad f l) (sym eb)
+    ap read_of (ep ∙ ap (λ (x : List ℕ). row_sheet x l table r) es) ∙ row_reads s l table r good fit ∙ ap (λ (f : Option ℕ). unless_bad f l) (sym eb)
 
 -- ---- the rows
 
-pub rows_none : (j : Judging) (s : List ℕ) (l : Layout) (table : List Float) (b : Lends) → b ≡ rows_done j s l table 0 b
+pub rows_none : (j : Option Limits) (s : List ℕ) (l : Layout) (table : List Float) (b : Lends) → b ≡ rows_done j s l table 0 b
 unfolding rows_done
 rows_none j s l table b = refl
 
-pub rows_next : (j : Judging) (s : List ℕ) (l : Layout) (table : List Float) (r : ℕ) (b₀ b b' : Lends) → b ≡ rows_done j s l table r b₀ → b' ≡ row_done j s l table r b → b' ≡ rows_done j s l table (r + 1) b₀
+pub rows_next : (j : Option Limits) (s : List ℕ) (l : Layout) (table : List Float) (r : ℕ) (b₀ b b' : Lends) → b ≡ rows_done j s l table r b₀ → b' ≡ row_done j s l table r b → b' ≡ rows_done j s l table (r + 1) b₀
 unfolding rows_done
 rows_next j s l table r b₀ b b' e h = rw (add-one r, ← e) h
 
-pub rows_all : (j : Judging) (s : List ℕ) (l : Layout) (table : List Float) (r rows : ℕ) (b₀ b : Lends) → r ≡ rows → b ≡ rows_done j s l table r b₀ → b ≡ rows_done j s l table rows b₀
+pub rows_all : (j : Option Limits) (s : List ℕ) (l : Layout) (table : List Float) (r rows : ℕ) (b₀ b : Lends) → r ≡ rows → b ≡ rows_done j s l table r b₀ → b ≡ rows_done j s l table rows b₀
 rows_all j s l table r rows b₀ b h e = e ∙ ap (λ (k : ℕ). rows_done j s l table k b₀) h
 
 -- buffers that are as long as they were
@@ -268,7 +263,7 @@ fits_kept l trials width rows r n n' e h f = rw e (fits_fewer l trials width row
 -- ---- the whole call
 
 -- a good sheet has at most an OP, a PD, 64 ND and 128 LK
-pub few_bytes : (s : List ℕ) (l : Layout) → read_of s ≡ Good l → length s ≤ 9199
+pub few_bytes : (s : List ℕ) (l : Layout) → read_of s ≡ Ok l → length s ≤ 9199
 unfolding read_of base_bounds with_unknowns layout_of link_place
 few_bytes s l h =
     let a = accepts base_bounds s l h in
@@ -316,17 +311,17 @@ fits_of l trials width rows n e = go (ltb n.scratch 4096) (eqb rows 0) (ltb 32 r
     go false false false true ec ed e = absurd (let z : ⊥ = omega arith in z)
     go false false false false ec ed e = room_enough l trials width rows n (ltb-false 32 rows ec) ed
 
-pub fits_admitted : (j : Judging) (l : Layout) (trials width rows : ℕ) (n : Lengths) (c : Called) → width ≡ width_of j → c ≡ admitted_of l trials width rows n → c.number ≡ 0 → Fits l trials (width_of j) rows n
+pub fits_admitted : (j : Option Limits) (l : Layout) (trials width rows : ℕ) (n : Lengths) (c : Called) → width ≡ width_of j → c ≡ admitted_of l trials width rows n → c.number ≡ 0 → Fits l trials (width_of j) rows n
 fits_admitted j l trials width rows n c ew ec e =
     subst (λ (k : ℕ). Fits l trials k rows n) ew (fits_of l trials width rows n (sym (ap (λ (x : Called). x.number) ec) ∙ e))
 
-module _ (j : Judging) (s : List ℕ) (rows : ℕ) (table : List Float) (b : Lends) (reading : Reading) (read : reading ≡ read_of s) where
-  pub evening_refused : (r : Refusal) (number place : ℕ) → reading ≡ Refused r → number ≡ number_of r → place ≡ place_of r
+module _ (j : Option Limits) (s : List ℕ) (rows : ℕ) (table : List Float) (b : Lends) (reading : Reading) (read : reading ≡ read_of s) where
+  pub evening_refused : (r : Refusal) (number place : ℕ) → reading ≡ Err r → number ≡ number_of r → place ≡ place_of r
       → ◌≡◌ {A = Evening} (record { called = called number place; lends = b }) (evening_of j s rows table b)
   unfolding evening_of after_read
   evening_refused r number place e en ep = rw (← read, e, en, ep)
 
-  module _ (l : Layout) (trials width : ℕ) (c : Called) (good : reading ≡ Good l) (et : trials ≡ trials_of s) (ew : width ≡ width_of j) (ec : c ≡ admitted_of l trials width rows (lengths_of table b)) where
+  module _ (l : Layout) (trials width : ℕ) (c : Called) (good : reading ≡ Ok l) (et : trials ≡ trials_of s) (ew : width ≡ width_of j) (ec : c ≡ admitted_of l trials width rows (lengths_of table b)) where
     pub evening-not : eqb c.number 0 ≡ false → ◌≡◌ {A = Evening} (record { called = c; lends = b }) (evening_of j s rows table b)
     unfolding evening_of after_read after_admitted
     evening-not e = rw (← read, good, ← et, ← ew, ← ec, e)

@@ -7,5 +7,4 @@ mod single;
 mod whole;
 
 pub use admitting::Called;
-pub use single::Judging;
 pub use whole::solve_evening;

@@ -1,6 +1,5 @@
 // One row: the solve of its sheet, which was read but for its demands, and the answer put into the row's room.
 ghost use Rattle.std.specs.Prelude.{◌≡◌, ◌≤◌, length};
-ghost use Rattle.power.specs.Tables.{power_table};
 ghost use Rattle.sheet.specs.Read.{read_of};
 ghost use Rattle.entries.specs.Entries.{none};
 ghost use Rattle.answers.specs.Answers.{failed_of};
@@ -9,27 +8,19 @@ ghost use Rattle.rowwise.specs.Rooms.{lends};
 ghost use Rattle.rowwise.specs.Evening.{width_of, counts_put, totals_put, verdict_put, row_of, refused_counts};
 
 use answers::Answer;
-use found::Found;
 use layout::Layout;
+use power::PowerTable;
 use refusals::Refusal;
 use sale::Verdict;
-use sheet::Reading;
 use tolerance::Limits;
 
-// Whether each row is judged too, and by which limits.
-#[derive(Clone, Copy)]
-pub enum Judging {
-    Off,
-    By(Limits),
-}
-
 // How many counts a row has: number, place, trials, freed, grounded; then the verdict's number and place.
-pub fn width(judging: Judging) -> usize
+pub fn width(judging: Option<Limits>) -> usize
     ensures { result ≡ width_of judging }
 {
     match judging {
-        Judging::Off => 5,
-        Judging::By(_) => 7,
+        None => 5,
+        Some(_) => 7,
     }
 }
 
@@ -62,7 +53,7 @@ fn put_verdict(v: Verdict, counts: &mut [u64])
 }
 
 // The counts and totals of a row with a bad demand at a place.
-fn refuse_one(place: usize, judging: Judging, counts: &mut [u64], totals: &mut [f64])
+fn refuse_one(place: usize, judging: Option<Limits>, counts: &mut [u64], totals: &mut [f64])
     requires { (width_of judging ≤ length counts.old) × (3 ≤ length totals.old) }
     ensures counts_after { counts.new ≡ refused_counts judging place counts.old }
     ensures totals_after { totals.new ≡ totals_put (failed_of 3 place none) totals.old }
@@ -70,7 +61,7 @@ fn refuse_one(place: usize, judging: Judging, counts: &mut [u64], totals: &mut [
     let a = answers::refuse(Refusal::Field(place));
     put_totals(a, totals);
     put_counts(a, counts);
-    if let Judging::By(_) = judging {
+    if let Some(_) = judging {
         put_verdict(
             Verdict {
                 number: 1,
@@ -85,8 +76,8 @@ fn refuse_one(place: usize, judging: Judging, counts: &mut [u64], totals: &mut [
 fn solve_good(
     sheet: &[u8],
     l: Layout,
-    powers: &[u64; 1153],
-    judging: Judging,
+    powers: &PowerTable,
+    judging: Option<Limits>,
     heads: &mut [f64],
     demands: &mut [f64],
     flows: &mut [f64],
@@ -96,20 +87,19 @@ fn solve_good(
     totals: &mut [f64],
     scratch: &mut [f64],
 )
-    requires sheet_value { read_of sheet.now ≡ Reading.Good l }
+    requires sheet_value { read_of sheet.now ≡ Ok l }
     requires judging_in_bounds { (width_of judging ≤ length counts.old) × (3 ≤ length totals.old) }
-    requires powers_value { powers.now ≡ power_table }
     ensures { lends heads.new demands.new flows.new statuses.new entries.new counts.new totals.new scratch.new ≡ row_of judging sheet.now (lends heads.old demands.old flows.old statuses.old entries.old counts.old totals.old scratch.old) }
 {
     match judging {
-        Judging::Off => {
+        None => {
             let a = solver::solve_read(
                 sheet, l, powers, heads, demands, flows, statuses, entries, scratch,
             );
             put_counts(a, counts);
             put_totals(a, totals);
         }
-        Judging::By(limits) => {
+        Some(limits) => {
             let s = sale::sell_read(
                 sheet, l, powers, limits, heads, demands, flows, statuses, entries, scratch,
             );
@@ -124,9 +114,9 @@ fn solve_good(
 pub fn solve_one(
     sheet: &[u8],
     l: Layout,
-    powers: &[u64; 1153],
-    bad: Found,
-    judging: Judging,
+    powers: &PowerTable,
+    bad: Option<usize>,
+    judging: Option<Limits>,
     heads: &mut [f64],
     demands: &mut [f64],
     flows: &mut [f64],
@@ -138,12 +128,11 @@ pub fn solve_one(
 )
     requires sheet_value { read_of sheet.now ≡ unless_bad bad l }
     requires judging_in_bounds { (width_of judging ≤ length counts.old) × (3 ≤ length totals.old) }
-    requires powers_value { powers.now ≡ power_table }
     ensures { lends heads.new demands.new flows.new statuses.new entries.new counts.new totals.new scratch.new ≡ row_of judging sheet.now (lends heads.old demands.old flows.old statuses.old entries.old counts.old totals.old scratch.old) }
 {
     match bad {
-        Found::At(place) => refuse_one(place, judging, counts, totals),
-        Found::Nothing => solve_good(
+        Some(place) => refuse_one(place, judging, counts, totals),
+        None => solve_good(
             sheet, l, powers, judging, heads, demands, flows, statuses, entries, counts, totals,
             scratch,
         ),

@@ -1,23 +1,23 @@
 // The rows in order, and the whole call.
 ghost use Rattle.std.specs.Prelude.{◌≡◌, ◌+◌, ◌*◌, ◌≤◌, ◌<◌, length};
-ghost use Rattle.power.specs.Tables.{power_table};
 ghost use Rattle.sheet.specs.Read.{read_of};
 ghost use Rattle.solver.specs.Solve.{trials_of};
 ghost use Rattle.rowwise.specs.Rooms.{lends, lengths_of, Fits};
 ghost use Rattle.rowwise.specs.Evening.{width_of, row_done, rows_done, evening_of};
 
 use crate::admitting::{Called, Lengths, admitted};
-use crate::single::{Judging, solve_one, width};
+use crate::single::{solve_one, width};
 use layout::Layout;
-use sheet::Reading;
+use power::PowerTable;
+use tolerance::Limits;
 
 // Row r: its demands put into a copy of the sheet, which is solved in the row's part of every buffer.
 fn solve_row(
     sheet: &[u8],
     l: Layout,
-    powers: &[u64; 1153],
+    powers: &PowerTable,
     trials: usize,
-    judging: Judging,
+    judging: Option<Limits>,
     r: usize,
     table: &[f64],
     heads: &mut [f64],
@@ -30,11 +30,10 @@ fn solve_row(
     scratch: &mut [f64],
     copy: &mut [u8],
 )
-    requires sheet_value { read_of sheet.now ≡ Reading.Good l }
+    requires sheet_value { read_of sheet.now ≡ Ok l }
     requires trials_value { trials ≡ trials_of sheet.now }
     requires copy_len { length copy.old ≡ length sheet.now }
     requires fits { Fits l trials (width_of judging) (r + 1) (lengths_of table.now (lends heads.old demands.old flows.old statuses.old entries.old counts.old totals.old scratch.old)) }
-    requires powers_value { powers.now ≡ power_table }
     ensures { lends heads.new demands.new flows.new statuses.new entries.new counts.new totals.new scratch.new ≡ row_done judging sheet.now l table.now r (lends heads.old demands.old flows.old statuses.old entries.old counts.old totals.old scratch.old) }
 {
     let wide = width(judging);
@@ -49,7 +48,7 @@ fn solve_row(
     let t = r * 3;
     let t2 = t + 3;
     let bad = row_sheet::bad_demand(l, table, r);
-    columns::copy_bytes(copy, sheet, sheet.len());
+    columns::copy_first(copy, sheet, sheet.len());
     row_sheet::put_row(copy, l, table, r);
     solve_one(
         copy,
@@ -71,9 +70,9 @@ fn solve_row(
 fn solve_rows(
     sheet: &[u8],
     l: Layout,
-    powers: &[u64; 1153],
+    powers: &PowerTable,
     trials: usize,
-    judging: Judging,
+    judging: Option<Limits>,
     rows: usize,
     table: &[f64],
     heads: &mut [f64],
@@ -86,11 +85,10 @@ fn solve_rows(
     scratch: &mut [f64],
     copy: &mut [u8],
 )
-    requires sheet_value { read_of sheet.now ≡ Reading.Good l }
+    requires sheet_value { read_of sheet.now ≡ Ok l }
     requires trials_value { trials ≡ trials_of sheet.now }
     requires copy_len { length copy.old ≡ length sheet.now }
     requires fits { Fits l trials (width_of judging) rows (lengths_of table.now (lends heads.old demands.old flows.old statuses.old entries.old counts.old totals.old scratch.old)) }
-    requires powers_value { powers.now ≡ power_table }
     ensures { lends heads.new demands.new flows.new statuses.new entries.new counts.new totals.new scratch.new ≡ rows_done judging sheet.now l table.now rows (lends heads.old demands.old flows.old statuses.old entries.old counts.old totals.old scratch.old) }
 {
     for r in 0..rows {
@@ -104,7 +102,7 @@ fn solve_rows(
 // Every row of the table, in order, for any sheet, any number of rows and any buffers.
 pub fn solve_evening(
     sheet: &[u8],
-    judging: Judging,
+    judging: Option<Limits>,
     rows: usize,
     table: &[f64],
     heads: &mut [f64],
@@ -119,11 +117,11 @@ pub fn solve_evening(
     ensures { record { called = result; lends = lends heads.new demands.new flows.new statuses.new entries.new counts.new totals.new scratch.new } ≡ evening_of judging sheet.now rows table.now (lends heads.old demands.old flows.old statuses.old entries.old counts.old totals.old scratch.old) }
 {
     match sheet::read(sheet) {
-        Reading::Refused(r) => Called {
+        Err(r) => Called {
             number: refusals::refusal_number(r),
             place: refusals::refusal_place(r),
         },
-        Reading::Good(l) => {
+        Ok(l) => {
             let options = records::options_of(sheet);
             let trials = options.trials;
             let called = admitted(

@@ -13,15 +13,14 @@ use Rattle.entries.specs.declared.Entry.TheVariants.{Freed, Grounded, Singular, 
 use Rattle.layout.specs.declared.places.Layout.{Layout}
 use Rattle.state.specs.State.{State}
 use Rattle.trial.specs.Trial.{Room, Outcome, outcome, Repair, trial_with}
-use Rattle.entries.specs.Entries.{going_of, counted, tallied}
+use Rattle.entries.specs.Entries.{going_of, counted, tallied, Going}
 use Rattle.marks.specs.Marks.{mark_of, put_of, written}
 use Rattle.marks.specs.declared.Mark.{Mark}
 use Rattle.entries.specs.declared.Ended.{Ended}
 use Rattle.entries.specs.declared.Ended.TheVariants.{Limit}
-use Rattle.entries.specs.declared.Going.{Going}
-use Rattle.entries.specs.declared.Going.TheVariants.{On, Over}
 use Rattle.entries.specs.declared.Tally.{Tally}
 use Rattle.runs.specs.Run.{Turned, turn_of, Run, Finished, then_run, run_with, finish}
+use Rattle.std.proofs.Common.{Break, Continue}
 
 -- every lent slice has the length that it came with
 pub record Kept (t₀ t : State) (r₀ r : List ℕ) (x₀ x : List Float) : Type 0 where
@@ -69,8 +68,8 @@ run_length repair s l (suc m) d t = go (trial_with repair s l d t) (going_of d (
   where
     go : (o : Outcome) (g : Going) → ((d : Damping) (t : State) → length (run_with repair s l m d t).entries ≤ m)
         → length (then_run o.entry o.state g (run_with repair s l m)).entries ≤ suc m
-    go o (On d') ih = let h = ih d' o.state in omega arith
-    go o (Over z) ih = omega arith
+    go o (Continue d') ih = let h = ih d' o.state in omega arith
+    go o (Break z) ih = omega arith
 
 -- a turn, after which the run goes on or is over, and the limit
 module _ (repair : Repair) (s : List ℕ) (l : Layout) (m : ℕ) (d : Damping) (tally : Tally) (r : List ℕ) (t : State) where
@@ -88,23 +87,23 @@ module _ (repair : Repair) (s : List ℕ) (l : Layout) (m : ℕ) (d : Damping) (
   abbrev left : ℕ → Run
   left i = run_with repair s l (m - i) d t
 
-  pub run_on : (w : Turned) (d' : Damping) → tally.trials < m → w ≡ turn_of repair s l d tally r t → w.turn.going ≡ On d'
+  pub run_on : (w : Turned) (d' : Damping) → tally.trials < m → w ≡ turn_of repair s l d tally r t → w.turn.going ≡ Continue d'
       → finish w.turn.tally.trials w.turn.tally w.bytes (run_with repair s l (m - w.turn.tally.trials) d' w.state) ≡ finish tally.trials tally r (left tally.trials)
   unfolding turn_of run_with then_run finish written tallied
   run_on w d' h e on =
       let i = tally.trials in
       let from : ℕ → Finished = λ n. finish n w.turn.tally w.bytes (run_with repair s l (m - n) d' w.state) in
       let p : m - i ≡ suc (m - suc i) = omega arith in
-      let g : going_of d (trial_with repair s l d t).entry ≡ On d' = rw e at on in
+      let g : going_of d (trial_with repair s l d t).entry ≡ Continue d' = rw e at on in
       let next : from (suc i) ≡ finish i tally r (left i) = rw (e, p, g) in
       ap from ((turn_counts w e).trials ∙ add-one i) ∙ next
 
-  pub run_over : (w : Turned) (z : Ended) → tally.trials < m → w ≡ turn_of repair s l d tally r t → w.turn.going ≡ Over z
+  pub run_over : (w : Turned) (z : Ended) → tally.trials < m → w ≡ turn_of repair s l d tally r t → w.turn.going ≡ Break z
       → record { ran = record { ended = z; tally = w.turn.tally }; bytes = w.bytes; state = w.state } ≡ finish tally.trials tally r (left tally.trials)
   unfolding turn_of run_with then_run finish written tallied
   run_over w z h e over =
       let p : m - tally.trials ≡ suc (m - suc tally.trials) = omega arith in
-      let g : going_of d (trial_with repair s l d t).entry ≡ Over z = rw e at over in
+      let g : going_of d (trial_with repair s l d t).entry ≡ Break z = rw e at over in
       rw (e, p, g)
 
   pub run_limit : m ≤ tally.trials → record { ran = record { ended = Limit; tally = tally }; bytes = r; state = t } ≡ finish tally.trials tally r (left tally.trials)

@@ -5,15 +5,14 @@ use Rattle.entries.specs.declared.Entry.{Entry}
 use Rattle.layout.specs.declared.places.Layout.{Layout}
 use Rattle.state.specs.State.{State}
 use Rattle.trial.specs.Trial.{Outcome, Repair, trial_with}
-use Rattle.entries.specs.Entries.{going_of, counted, tallied}
+use Rattle.entries.specs.Entries.{going_of, counted, tallied, Going}
 use Rattle.marks.specs.Marks.{mark_of, put_of, written}
 use Rattle.entries.specs.declared.Ended.{Ended}
 use Rattle.entries.specs.declared.Ended.TheVariants.{Limit}
-use Rattle.entries.specs.declared.Going.{Going}
-use Rattle.entries.specs.declared.Going.TheVariants.{On, Over}
 use Rattle.entries.specs.declared.Tally.{Tally}
 use Rattle.runs.specs.declared.Ran.{Ran}
 use Rattle.runs.specs.declared.Turn.{Turn}
+use Rattle.std.proofs.Common.{Break, Continue}
 
 -- what a turn leaves: what follows with the tally, the record's bytes and the state
 pub record Turned : Type 0 where
@@ -38,8 +37,8 @@ pub record Run : Type 0 where
 
 -- an entry, the state after it, and the trials that follow if there are any
 unfoldable pub then_run : Entry → State → Going → (Damping → State → Run) → Run
-then_run e t (On d) next = record { entries = e ∷ (next d t).entries; ended = (next d t).ended; state = (next d t).state }
-then_run e t (Over z) next = record { entries = e ∷ []; ended = z; state = t }
+then_run e t (Continue d) next = record { entries = e ∷ (next d t).entries; ended = (next d t).ended; state = (next d t).state }
+then_run e t (Break z) next = record { entries = e ∷ []; ended = z; state = t }
 
 -- at most m trials
 unfoldable pub run_with : Repair → List ℕ → Layout → ℕ → Damping → State → Run

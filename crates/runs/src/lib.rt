@@ -2,7 +2,6 @@
 #![tactic(auto)]
 
 ghost use Rattle.std.specs.Prelude.{◌≡◌, ◌+◌, ◌*◌, ◌<◌, ◌≤◌, length};
-ghost use Rattle.power.specs.Tables.{power_table};
 ghost use Rattle.columns.specs.Columns.{zeros};
 ghost use Rattle.numbering.specs.Numbering.{RowsRight};
 ghost use Rattle.links_at.specs.LinksAt.{LinksAt};
@@ -16,6 +15,8 @@ use damping::Damping;
 use entries::{Ended, Going, Tally, count, damping_start, go};
 use layout::Layout;
 use marks::{marked, put};
+use power::PowerTable;
+use std::ops::ControlFlow;
 
 #[derive(Clone, Copy)]
 pub struct Ran {
@@ -38,7 +39,7 @@ pub fn advance(
     unknowns: &[usize],
     places: &[usize],
     listed: &[usize],
-    table: &[u64; 1153],
+    table: &PowerTable,
     d: Damping,
     tally: Tally,
     heads: &mut [f64],
@@ -53,7 +54,6 @@ pub fn advance(
     requires network { Network l sheet.now }
     requires links_at { LinksAt l sheet.now places.now listed.now }
     requires nodes_in_bounds { (l.nodes ≤ length unknowns.now) × (RowsRight l sheet.now unknowns.now) }
-    requires table_value { table.now ≡ power_table }
     requires room { Room l (state heads.old demands.old drawn.old flows.old statuses.old grounded.old) }
     requires trials_bound { (tally.trials < 65535) × ((tally.freed ≤ tally.trials) × (tally.grounded ≤ tally.trials)) }
     requires trials_in_bounds { (4 * tally.trials + 4 ≤ length entries.old) × (scratch.old ≡ zeros 4096) }
@@ -80,7 +80,7 @@ pub fn run_trials(
     unknowns: &[usize],
     places: &[usize],
     listed: &[usize],
-    table: &[u64; 1153],
+    table: &PowerTable,
     heads: &mut [f64],
     demands: &mut [f64],
     drawn: &mut [f64],
@@ -93,7 +93,6 @@ pub fn run_trials(
     requires network { Network l sheet.now }
     requires links_at { LinksAt l sheet.now places.now listed.now }
     requires nodes_in_bounds { (l.nodes ≤ length unknowns.now) × (RowsRight l sheet.now unknowns.now) }
-    requires table_value { table.now ≡ power_table }
     requires room { Room l (state heads.old demands.old drawn.old flows.old statuses.old grounded.old) }
     requires trials_bound { (trials ≤ 65535) × ((4 * trials ≤ length entries.old) × (length scratch.old ≡ 4096)) }
     ensures state { record { ran = result; bytes = entries.new; state = state heads.new demands.new drawn.new flows.new statuses.new grounded.new } ≡ finish 0 none entries.old (run_with repair_of sheet.now l trials damping_start (state heads.old demands.old drawn.old flows.old statuses.old grounded.old)) }
@@ -114,10 +113,10 @@ pub fn run_trials(
         let going = turn.going;
         tally = turn.tally;
         match going {
-            Going::On(next) => {
+            ControlFlow::Continue(next) => {
                 d = next;
             }
-            Going::Over(ended) => {
+            ControlFlow::Break(ended) => {
                 return Ran {
                     ended: ended,
                     tally: tally,

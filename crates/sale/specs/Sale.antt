@@ -1,7 +1,5 @@
 -- May this hour be sold? The verdict on a solve: the first line of the rule that holds, and its place. Definitions only.
-use Rattle.std.specs.Prelude.{ℕ, suc, ◌*◌, ◌≤◌, ◌<◌, ◌≡◌, cond, List, [], ◌∷◌, eqb, length, Float}
-use Rattle.found.specs.declared.Found.{Found}
-use Rattle.found.specs.declared.Found.TheVariants.{At, Nothing}
+use Rattle.std.specs.Prelude.{ℕ, suc, ◌*◌, ◌≤◌, ◌<◌, ◌≡◌, cond, List, [], ◌∷◌, eqb, length, Float, Err, None, Ok, Option, Some}
 use Rattle.layout.specs.declared.places.Layout.{Layout}
 use Rattle.columns.specs.Columns.{zeros}
 use Rattle.tolerance.specs.declared.Limits.{Limits}
@@ -14,9 +12,7 @@ use Rattle.link_laws.specs.LinkLaws.{unsettled_of}
 use Rattle.held_heads.specs.Held.{unheld_of}
 use Rattle.drawn_laws.specs.DrawnLaws.{ill_drawn}
 use Rattle.pressures_low.specs.Low.{low_of}
-use Rattle.sheet.specs.Read.{read_of}
-use Rattle.sheet.specs.declared.reading.Reading.{Reading}
-use Rattle.sheet.specs.declared.reading.Reading.TheVariants.{Good, Refused}
+use Rattle.sheet.specs.Read.{read_of, Reading}
 use Rattle.answers.specs.declared.Answer.{Answer}
 use Rattle.answers.specs.Answers.{Lent, Solved}
 use Rattle.solver.specs.Solve.{solve_of}
@@ -27,18 +23,18 @@ abbrev pub sold : Verdict
 sold = record { number = 0; place = 0 }
 
 -- what a line found, else what the lines behind it come to
-unfoldable pub told_of : Found → ℕ → Verdict → Verdict
-told_of (At place) number next = record { number = number; place = place }
-told_of Nothing number next = next
+unfoldable pub told_of : Option ℕ → ℕ → Verdict → Verdict
+told_of (Some place) number next = record { number = number; place = place }
+told_of None number next = next
 
 -- the first line that holds, the first being number n
-unfoldable pub first_line : ℕ → List Found → Verdict
+unfoldable pub first_line : ℕ → List (Option ℕ) → Verdict
 unfolding told_of
 first_line n [] = sold
 first_line n (f ∷ more) = told_of f n (first_line (suc n) more)
 
 -- lines 2 to 8, of results and a record of so many trials
-unfoldable pub rule : List ℕ → Layout → Limits → ℕ → List Float → List Float → List Float → List ℕ → List ℕ → List Found
+unfoldable pub rule : List ℕ → Layout → Limits → ℕ → List Float → List Float → List Float → List ℕ → List ℕ → List (Option ℕ)
 rule s l limits trials h d q c r =
     repair_shown r trials
     ∷ undetermined_of s l q c
@@ -48,13 +44,6 @@ rule s l limits trials h d q c r =
     ∷ ill_drawn s l h d limits.flow
     ∷ low_of s l h limits.pressure
     ∷ []
-
--- lines 4 and 5, before those that follow
-unfoldable pub flows_told : List ℕ → Layout → Limits → List Float → List Float → List Float → List ℕ → Verdict → Verdict
-unfolding told_of
-flows_told s l limits h d q c next =
-    told_of (unbalanced_of s l (imbalance_of s l d q (zeros 64)) limits.flow) 4
-    (told_of (unsettled_of s l (view h q c (excess_of s l d q (zeros 64))) limits) 5 next)
 
 unfoldable pub judge_of : List ℕ → Layout → Limits → ℕ → List Float → List Float → List Float → List ℕ → List ℕ → Verdict
 unfolding rule first_line
@@ -71,7 +60,7 @@ pub record Ample (l : Layout) (trials : ℕ) (h d q : List Float) (c r : List �
 
 -- of an answer 0 to a good sheet: the columns have room for its layout, and the record for its trials
 pub record Backed (s : List ℕ) (a : Answer) (h d q : List Float) (c r : List ℕ) : Type 0 where
-  pub room : (l : Layout) → read_of s ≡ Good l → a.number ≡ 0 → Ample l a.trials h d q c r
+  pub room : (l : Layout) → read_of s ≡ Ok l → a.number ≡ 0 → Ample l a.trials h d q c r
 
 -- line 1: the solve's number is not 0
 abbrev pub unsold : Answer → Verdict
@@ -80,8 +69,8 @@ unsold a = record { number = 1; place = a.number }
 -- the verdict on a solve, by what its sheet reads as
 unfoldable pub verdict_by : List ℕ → Limits → Solved → Reading → Verdict
 unfolding judge_of
-verdict_by s limits o (Refused r) = unsold o.answer
-verdict_by s limits o (Good l) =
+verdict_by s limits o (Err r) = unsold o.answer
+verdict_by s limits o (Ok l) =
     cond (eqb o.answer.number 0)
     (judge_of s l limits o.answer.trials o.lent.heads o.lent.demands o.lent.flows o.lent.statuses o.lent.entries)
     (unsold o.answer)

@@ -1,6 +1,5 @@
 // The solve and the verdict in one call, for any sheet, any limits and any buffers.
 ghost use Rattle.std.specs.Prelude.{◌≡◌, List, Float};
-ghost use Rattle.power.specs.Tables.{power_table};
 ghost use Rattle.sheet.specs.Read.{read_of};
 ghost use Rattle.answers.specs.Answers.{lent};
 ghost use Rattle.sale.specs.Sale.{Backed, verdict_by, sale_of};
@@ -8,7 +7,7 @@ ghost use Rattle.sale.specs.Sale.{Backed, verdict_by, sale_of};
 use crate::judging::{Verdict, judge};
 use answers::Answer;
 use layout::Layout;
-use sheet::Reading;
+use power::PowerTable;
 use tolerance::Limits;
 
 // What a solve came to, and whether it may be sold.
@@ -32,7 +31,7 @@ fn unsold(number: usize) -> Verdict
 fn decide(
     sheet: &[u8],
     l: Layout,
-    table: &[u64; 1153],
+    table: &PowerTable,
     limits: Limits,
     answer: Answer,
     heads: &[f64],
@@ -41,10 +40,9 @@ fn decide(
     statuses: &[u8],
     entries: &[u8],
 ) -> Verdict
-    requires sheet_value { read_of sheet.now ≡ Reading.Good l }
+    requires sheet_value { read_of sheet.now ≡ Ok l }
     requires backed { Backed sheet.now answer heads.now demands.now flows.now statuses.now entries.now }
-    requires table_value { table.now ≡ power_table }
-    ensures { (scratch : List Float) → result ≡ verdict_by sheet.now limits (record { answer = answer; lent = lent heads.now demands.now flows.now statuses.now entries.now scratch }) (Reading.Good l) }
+    ensures { (scratch : List Float) → result ≡ verdict_by sheet.now limits (record { answer = answer; lent = lent heads.now demands.now flows.now statuses.now entries.now scratch }) (Ok l) }
 {
     if answer.number != 0 {
         return unsold(answer.number);
@@ -67,7 +65,7 @@ fn decide(
 pub fn sell_read(
     sheet: &[u8],
     l: Layout,
-    table: &[u64; 1153],
+    table: &PowerTable,
     limits: Limits,
     heads: &mut [f64],
     demands: &mut [f64],
@@ -76,8 +74,7 @@ pub fn sell_read(
     entries: &mut [u8],
     scratch: &mut [f64],
 ) -> Sold
-    requires sheet_value { read_of sheet.now ≡ Reading.Good l }
-    requires table_value { table.now ≡ power_table }
+    requires sheet_value { read_of sheet.now ≡ Ok l }
     ensures { record { answer = result.answer; verdict = result.verdict; lent = lent heads.new demands.new flows.new statuses.new entries.new scratch.new } ≡ sale_of sheet.now limits (lent heads.old demands.old flows.old statuses.old entries.old scratch.old) }
 {
     let answer = solver::solve_read(
@@ -106,7 +103,7 @@ pub fn sell(
     ensures { record { answer = result.answer; verdict = result.verdict; lent = lent heads.new demands.new flows.new statuses.new entries.new scratch.new } ≡ sale_of sheet.now limits (lent heads.old demands.old flows.old statuses.old entries.old scratch.old) }
 {
     match sheet::read(sheet) {
-        Reading::Refused(r) => {
+        Err(r) => {
             let answer = answers::refuse(r);
             let verdict = unsold(answer.number);
             Sold {
@@ -114,7 +111,7 @@ pub fn sell(
                 verdict: verdict,
             }
         }
-        Reading::Good(l) => {
+        Ok(l) => {
             let table = power::power_table();
             sell_read(
                 sheet, l, &table, limits, heads, demands, flows, statuses, entries, scratch,

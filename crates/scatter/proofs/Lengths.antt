@@ -7,22 +7,25 @@ use lib.Ieee.{Float}
 use Rattle.constants.specs.Arithmetic.{minus, times}
 use Rattle.coefficient.specs.declared.Coefficients.{Coefficients}
 use Rattle.coefficient.specs.declared.NodeAddition.{NodeAddition}
-use Rattle.numbering.specs.declared.Row.{Row}
 use Rattle.rows.specs.Rows.{on_row, off_row, on_diagonal, off_between}
 use Rattle.rows.proofs.Lengths.{on_row_long, off_row_long, on_diagonal_long, between_long}
 use Rattle.scatter.specs.Scatter.{given_diagonal, given_row, fixed_term, link_matrix, link_row}
+use Rattle.numbering.specs.Numbering.{Row}
+use Rattle.std.specs.Prelude.{Option, Some, None}
 
 pub either_long : (b : Bool) (e f r : List Float) → length e ≡ length r → length f ≡ length r → length (cond b e f) ≡ length r
 either_long true e f r h k = h
 either_long false e f r h k = k
 
-given_diagonal_long : (a : NodeAddition) (row : Row) (m : List Float) → length (given_diagonal a row m) ≡ length m
+given_diagonal_long : (a : Option NodeAddition) (row : Row) (m : List Float) → length (given_diagonal a row m) ≡ length m
 unfolding given_diagonal
-given_diagonal_long a row m = either_long a.given (on_diagonal row a.diagonal m) m m (on_diagonal_long row a.diagonal m) refl
+given_diagonal_long None row m = refl
+given_diagonal_long (Some a) row m = on_diagonal_long row a.diagonal m
 
-given_row_long : (a : NodeAddition) (row : Row) (r : List Float) → length (given_row a row r) ≡ length r
+given_row_long : (a : Option NodeAddition) (row : Row) (r : List Float) → length (given_row a row r) ≡ length r
 unfolding given_row
-given_row_long a row r = either_long a.given (on_row row a.rhs r) r r (on_row_long row a.rhs r) refl
+given_row_long None row r = refl
+given_row_long (Some a) row r = on_row_long row a.rhs r
 
 fixed_long : (b : Bool) (row : Row) (x : Float) (r : List Float) → length (fixed_term b row x r) ≡ length r
 unfolding fixed_term

@@ -8,23 +8,24 @@ use Rattle.coefficient.specs.declared.Coefficients.{Coefficients}
 use Rattle.coefficient.specs.declared.NodeAddition.{NodeAddition}
 use Rattle.rows.specs.Rows.{on_row, off_row, on_diagonal, off_between}
 use Rattle.scatter.specs.Scatter.{given_diagonal, given_row, fixed_term, link_matrix, link_row}
-use Rattle.numbering.specs.declared.Row.{Row}
+use Rattle.numbering.specs.Numbering.{Row}
+use Rattle.std.specs.Prelude.{Option, Some, None}
 
-module _ (a : NodeAddition) (row : Row) (e f : List Float) where
-  pub given_diagonal_lem : a.given ≡ true → f ≡ on_diagonal row a.diagonal e → f ≡ given_diagonal a row e
+module _ (x : Option NodeAddition) (a : NodeAddition) (row : Row) (e f : List Float) where
+  pub given_diagonal_lem : x ≡ Some a → f ≡ on_diagonal row a.diagonal e → f ≡ given_diagonal x row e
   unfolding given_diagonal
   given_diagonal_lem h p = rw (h, p)
 
-  pub given_row_lem : a.given ≡ true → f ≡ on_row row a.rhs e → f ≡ given_row a row e
+  pub given_row_lem : x ≡ Some a → f ≡ on_row row a.rhs e → f ≡ given_row x row e
   unfolding given_row
   given_row_lem h p = rw (h, p)
 
-module _ (a : NodeAddition) (row : Row) (e : List Float) where
-  pub absent_diagonal : a.given ≡ false → e ≡ given_diagonal a row e
+module _ (x : Option NodeAddition) (row : Row) (e : List Float) where
+  pub absent_diagonal : x ≡ None → e ≡ given_diagonal x row e
   unfolding given_diagonal
   absent_diagonal h = rw h
 
-  pub absent_row : a.given ≡ false → e ≡ given_row a row e
+  pub absent_row : x ≡ None → e ≡ given_row x row e
   unfolding given_row
   absent_row h = rw h
 

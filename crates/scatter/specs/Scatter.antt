@@ -1,19 +1,21 @@
 -- Document 01, item 6: what one link adds to the matrix and to the right side, in the Rust's order. Definitions only.
-use Rattle.std.specs.Prelude.{Bool, cond, List, Float}
+use Rattle.std.specs.Prelude.{Bool, cond, List, Float, Option, Some, None}
 use Rattle.constants.specs.Arithmetic.{minus, times}
 use Rattle.coefficient.specs.declared.Coefficients.{Coefficients}
 use Rattle.coefficient.specs.declared.NodeAddition.{NodeAddition}
+use Rattle.numbering.specs.Numbering.{Row}
 unfoldable pub use Rattle.rows.specs.Rows.{on_row, off_row, on_diagonal, lower, off_between}
-use Rattle.numbering.specs.declared.Row.{Row}
 
 -- a regulator's addition; an absent one is not added
-unfoldable pub given_diagonal : NodeAddition → Row → List Float → List Float
+unfoldable pub given_diagonal : Option NodeAddition → Row → List Float → List Float
 unfolding on_diagonal
-given_diagonal a row m = cond a.given (on_diagonal row a.diagonal m) m
+given_diagonal None row m = m
+given_diagonal (Some a) row m = on_diagonal row a.diagonal m
 
-unfoldable pub given_row : NodeAddition → Row → List Float → List Float
+unfoldable pub given_row : Option NodeAddition → Row → List Float → List Float
 unfolding on_row
-given_row a row r = cond a.given (on_row row a.rhs r) r
+given_row None row r = r
+given_row (Some a) row r = on_row row a.rhs r
 
 -- the term of a fixed head at the other end
 unfoldable pub fixed_term : Bool → Row → Float → List Float → List Float

@@ -10,23 +10,23 @@ use numbering::Row;
 use rows::{add_to_diagonal, add_to_row, take_between, take_from_row};
 
 // A regulator's addition. An absent one is not added: 0.0 would turn a -0.0.
-fn add_given_diagonal(addition: NodeAddition, row: Row, matrix: &mut [f64])
+fn add_given_diagonal(addition: Option<NodeAddition>, row: Row, matrix: &mut [f64])
     requires matrix_len { length matrix.old ≡ 4096 }
     requires row_below { RowBelow 64 row }
     ensures { matrix.new ≡ given_diagonal addition row matrix.old }
 {
-    if addition.given {
-        add_to_diagonal(row, addition.diagonal, matrix);
+    if let Some(a) = addition {
+        add_to_diagonal(row, a.diagonal, matrix);
     }
 }
 
-fn add_given_row(addition: NodeAddition, row: Row, rhs: &mut [f64])
+fn add_given_row(addition: Option<NodeAddition>, row: Row, rhs: &mut [f64])
     requires in_bounds { 64 ≤ length rhs.old }
     requires row_below { RowBelow 64 row }
     ensures { rhs.new ≡ given_row addition row rhs.old }
 {
-    if addition.given {
-        add_to_row(row, addition.rhs, rhs);
+    if let Some(a) = addition {
+        add_to_row(row, a.rhs, rhs);
     }
 }
 

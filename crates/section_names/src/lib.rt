@@ -22,15 +22,14 @@ pub enum Section {
 }
 
 // Whether a line's first word begins a section.
+#[tactic(auto, unfolding(crate::specs::Sections::is_header))]
 pub fn is_header(word: &[u8]) -> bool
     ensures { result ≡ is_header word.now }
 {
-    if word.len() == 0 {
-        return false;
-    }
-    word[0] == b'['
+    matches!(word, [b'[', ..])
 }
 
+#[tactic(auto, unfolding(crate::specs::Sections::passed_over, spelled::specs::Texts::bytes_of))]
 fn is_passed(word: &[u8]) -> bool
     ensures { result ≡ passed_over word.now }
 {
@@ -38,32 +37,27 @@ fn is_passed(word: &[u8]) -> bool
 }
 
 // The section that a header begins.
+#[tactic(auto, unfolding(crate::specs::Sections::section_of, spelled::specs::Texts::bytes_of))]
 pub fn section_of(word: &[u8]) -> Section
     ensures { result ≡ section_of word.now }
 {
     if spells(word, b"[JUNCTIONS]") {
-        return Section::Junctions;
+        Section::Junctions
+    } else if spells(word, b"[RESERVOIRS]") {
+        Section::Reservoirs
+    } else if spells(word, b"[TANKS]") {
+        Section::Tanks
+    } else if spells(word, b"[PIPES]") {
+        Section::Pipes
+    } else if spells(word, b"[VALVES]") {
+        Section::Valves
+    } else if spells(word, b"[STATUS]") {
+        Section::Status
+    } else if spells(word, b"[OPTIONS]") {
+        Section::Options
+    } else if is_passed(word) {
+        Section::Passed
+    } else {
+        Section::Other
     }
-    if spells(word, b"[RESERVOIRS]") {
-        return Section::Reservoirs;
-    }
-    if spells(word, b"[TANKS]") {
-        return Section::Tanks;
-    }
-    if spells(word, b"[PIPES]") {
-        return Section::Pipes;
-    }
-    if spells(word, b"[VALVES]") {
-        return Section::Valves;
-    }
-    if spells(word, b"[STATUS]") {
-        return Section::Status;
-    }
-    if spells(word, b"[OPTIONS]") {
-        return Section::Options;
-    }
-    if is_passed(word) {
-        return Section::Passed;
-    }
-    Section::Other
 }

@@ -10,8 +10,7 @@ use lib.ListN.{length, get_or}
 use borrow.Author.Tests.{le-leb, lt-leb, leb-true, not-true, not-false}
 use Rattle.sheet.specs.Scan.{readable, records_from}
 use Rattle.sheet.specs.Read.{first_bad}
-use Rattle.found.specs.declared.Found.{Found}
-use Rattle.found.specs.declared.Found.TheVariants.{At, Nothing}
+use Rattle.std.specs.Prelude.{None, Option, Some}
 
 -- ---- a record's test
 
@@ -75,23 +74,23 @@ first_good good size (suc k) at h l =
     let e : suc k - 1 ≡ k = omega arith in
     rw (h, e)
 
-pub first_bad_lem : (good : ℕ → Bool) (size k at : ℕ) → good at ≡ false → 0 < k → first_bad good size k at ≡ At at
+pub first_bad_lem : (good : ℕ → Bool) (size k at : ℕ) → good at ≡ false → 0 < k → first_bad good size k at ≡ Some at
 unfolding first_bad
 first_bad_lem good size zero at h l = absurd (omega arith)
 first_bad_lem good size (suc k) at h l = rw h
 
-pub first_none : (good : ℕ → Bool) (size at : ℕ) → first_bad good size 0 at ≡ Nothing
+pub first_none : (good : ℕ → Bool) (size at : ℕ) → first_bad good size 0 at ≡ None
 unfolding first_bad
 first_none good size at = refl
 
 -- a search through n records, of which i are passed: `at` is where record i stands, as r, and `flag` is what its test said
-module _ (good : ℕ → Bool) (size n i at : ℕ) (whole : Found) (left : first_bad good size (n - i) at ≡ whole) where
-  pub search_end : n ≤ i → Nothing ≡ whole
+module _ (good : ℕ → Bool) (size n i at : ℕ) (whole : Option ℕ) (left : first_bad good size (n - i) at ≡ whole) where
+  pub search_end : n ≤ i → None ≡ whole
   search_end h = let e : n - i ≡ 0 = omega arith in sym (first_none good size at) ∙ subst (λ (k : ℕ). first_bad good size k at ≡ whole) e left
 
   module _ (r : ℕ) (flag : Bool) (place : r ≡ at) (test : flag ≡ good r) (more : i < n) where
-    pub search-bad : not flag ≡ true → At r ≡ whole
-    search-bad h = ap At place ∙ sym (first_bad_lem good size (n - i) at (ap good (sym place) ∙ sym test ∙ not-true flag h) (omega arith)) ∙ left
+    pub search-bad : not flag ≡ true → Some r ≡ whole
+    search-bad h = ap Some place ∙ sym (first_bad_lem good size (n - i) at (ap good (sym place) ∙ sym test ∙ not-true flag h) (omega arith)) ∙ left
 
     pub search-on : (next : ℕ) → not flag ≡ false → next ≡ at + size → first_bad good size (n - (i + 1)) next ≡ whole
     search-on next h q =
@@ -99,12 +98,12 @@ module _ (good : ℕ → Bool) (size n i at : ℕ) (whole : Found) (left : first
         rw (q, ← d) (sym (first_good good size (n - i) at (ap good (sym place) ∙ sym test ∙ not-false flag h) (omega arith)) ∙ left)
 
 -- where none is found, each is good
-pub all_good : (good : ℕ → Bool) (size k at : ℕ) → first_bad good size k at ≡ Nothing → (i : ℕ) → i < k → good (at + size * i) ≡ true
+pub all_good : (good : ℕ → Bool) (size k at : ℕ) → first_bad good size k at ≡ None → (i : ℕ) → i < k → good (at + size * i) ≡ true
 unfolding first_bad
 all_good good size zero at e i l = absurd (omega arith)
 all_good good size (suc k) at e i l = go (good at) refl e i l (λ f j m. all_good good size k (at + size) f j m)
   where
-    go : (b : Bool) → good at ≡ b → cond b (first_bad good size k (at + size)) (At at) ≡ Nothing → (i : ℕ) → i < suc k → (first_bad good size k (at + size) ≡ Nothing → (j : ℕ) → j < k → good (at + size + size * j) ≡ true) → good (at + size * i) ≡ true
+    go : (b : Bool) → good at ≡ b → cond b (first_bad good size k (at + size)) (Some at) ≡ None → (i : ℕ) → i < suc k → (first_bad good size k (at + size) ≡ None → (j : ℕ) → j < k → good (at + size + size * j) ≡ true) → good (at + size * i) ≡ true
     go false g f j m rest = absurd (let z : ◌≡◌ {A = ℕ} 0 1 = cc in omega arith)
     go true g f zero m rest = let q : at + size * 0 ≡ at = omega (arith, mul-zero size) in rw q g
     go true g f (suc j) m rest =

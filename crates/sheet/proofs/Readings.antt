@@ -17,11 +17,9 @@ use Rattle.fields.specs.Fields.{options_good, pressures_good, node_good, link_co
 use Rattle.ends.specs.Ends.{ends_good}
 use Rattle.sheet.specs.Read.{bad_node, bad_link, pressures_fine, bad_field, bad_ends, with_unknowns, checked, after_scan, read_with}
 use Rattle.fields.specs.declared.fields.Bounds.{Bounds}
-use Rattle.found.specs.declared.Found.{Found}
-use Rattle.found.specs.declared.Found.TheVariants.{At, Nothing}
-use Rattle.sheet.specs.declared.reading.Reading.TheVariants.{Good, Refused}
 use Rattle.refusals.specs.declared.refusals.Refusal.TheVariants.{Unreadable, NodeCount, LinkCount, Field, Ends}
 use Rattle.sheet.proofs.Laws.{all_good, and_left, and_right, fits, run_fits}
+use Rattle.std.specs.Prelude.{Err, None, Ok, Option, Some}
 
 link_good_is : (b : Bounds) (n : ℕ) (s : List ℕ) (at : ℕ) → link_good b n s at ≡ (link_codes n s at && link_numbers b s at)
 unfolding link_good
@@ -46,61 +44,61 @@ module _ (b : Bounds) (l : Layout) (s : List ℕ) where
       go true e = sym (fine_some e) ∙ h e
       go false e = sym (fine_none e)
 
-  pub field_options : options_good b s ≡ false → bad_field b l s ≡ At 0
+  pub field_options : options_good b s ≡ false → bad_field b l s ≡ Some 0
   unfolding bad_field
   field_options h = rw h
 
   module _ (options : options_good b s ≡ true) where
-    pub field-pressures : pressures_fine b l s ≡ false → bad_field b l s ≡ At 29
+    pub field-pressures : pressures_fine b l s ≡ false → bad_field b l s ≡ Some 29
     unfolding bad_field
     field-pressures h = rw (options, h)
 
     module _ (pressures : pressures_fine b l s ≡ true) where
-      pub field-node : (p : ℕ) → bad_node b l s ≡ At p → bad_field b l s ≡ At p
+      pub field-node : (p : ℕ) → bad_node b l s ≡ Some p → bad_field b l s ≡ Some p
       unfolding bad_field
       field-node p e = rw (options, pressures, e)
 
-      pub field-link : bad_node b l s ≡ Nothing → bad_field b l s ≡ bad_link b l s
+      pub field-link : bad_node b l s ≡ None → bad_field b l s ≡ bad_link b l s
       unfolding bad_field
       field-link e = rw (options, pressures, e)
 
   -- where no field is out of bounds, the options are good, the PD is fine, and every node and link is good
-  pub no_field : bad_field b l s ≡ Nothing → (options_good b s ≡ true) × (pressures_fine b l s ≡ true) × (bad_node b l s ≡ Nothing) × (bad_link b l s ≡ Nothing)
+  pub no_field : bad_field b l s ≡ None → (options_good b s ≡ true) × (pressures_fine b l s ≡ true) × (bad_node b l s ≡ None) × (bad_link b l s ≡ None)
   unfolding bad_field
   no_field e = go (options_good b s) refl (pressures_fine b l s) refl (bad_node b l s) refl e
     where
-      go : (o : Bool) → options_good b s ≡ o → (d : Bool) → pressures_fine b l s ≡ d → (f : Found) → bad_node b l s ≡ f → cond o (cond d (or_else f (bad_link b l s)) (At 29)) (At 0) ≡ Nothing
-          → (options_good b s ≡ true) × (pressures_fine b l s ≡ true) × (bad_node b l s ≡ Nothing) × (bad_link b l s ≡ Nothing)
+      go : (o : Bool) → options_good b s ≡ o → (d : Bool) → pressures_fine b l s ≡ d → (f : Option ℕ) → bad_node b l s ≡ f → cond o (cond d (or_else f (bad_link b l s)) (Some 29)) (Some 0) ≡ None
+          → (options_good b s ≡ true) × (pressures_fine b l s ≡ true) × (bad_node b l s ≡ None) × (bad_link b l s ≡ None)
       go false p d r f q h = absurd (let z : ◌≡◌ {A = ℕ} 0 1 = cc in omega arith)
       go true p false r f q h = absurd (let z : ◌≡◌ {A = ℕ} 0 1 = cc in omega arith)
-      go true p true r (At x) q h = absurd (let z : ◌≡◌ {A = ℕ} 0 1 = cc in omega arith)
-      go true p true r Nothing q h = (p, r, q, h)
+      go true p true r (Some x) q h = absurd (let z : ◌≡◌ {A = ℕ} 0 1 = cc in omega arith)
+      go true p true r None q h = (p, r, q, h)
 
   -- ---- refusals 3 and 4
 
-  pub checked_field : (p : ℕ) → bad_field b l s ≡ At p → checked b l s ≡ Refused (Field p)
+  pub checked_field : (p : ℕ) → bad_field b l s ≡ Some p → checked b l s ≡ Err (Field p)
   unfolding checked
   checked_field p e = rw e
 
-  pub checked_ends : (p : ℕ) → bad_field b l s ≡ Nothing → bad_ends l s ≡ At p → checked b l s ≡ Refused (Ends p)
+  pub checked_ends : (p : ℕ) → bad_field b l s ≡ None → bad_ends l s ≡ Some p → checked b l s ≡ Err (Ends p)
   unfolding checked
   checked_ends p e f = rw (e, f)
 
-  pub checked_good : bad_field b l s ≡ Nothing → bad_ends l s ≡ Nothing → checked b l s ≡ Good (with_unknowns s l)
+  pub checked_good : bad_field b l s ≡ None → bad_ends l s ≡ None → checked b l s ≡ Ok (with_unknowns s l)
   unfolding checked
   checked_good e f = rw (e, f)
 
   -- ---- refusal 2
 
-  pub no_nodes : l.nodes < 1 → after_scan b l s ≡ Refused NodeCount
+  pub no_nodes : l.nodes < 1 → after_scan b l s ≡ Err NodeCount
   unfolding after_scan
   no_nodes h = simp (lt-leb 1 l.nodes h)
 
-  pub many_nodes : 1 ≤ l.nodes → b.nodes < l.nodes → after_scan b l s ≡ Refused NodeCount
+  pub many_nodes : 1 ≤ l.nodes → b.nodes < l.nodes → after_scan b l s ≡ Err NodeCount
   unfolding after_scan
   many_nodes e h = simp (le-leb 1 l.nodes e, lt-leb l.nodes b.nodes h)
 
-  pub many_links : 1 ≤ l.nodes → l.nodes ≤ b.nodes → b.links < l.links → after_scan b l s ≡ Refused LinkCount
+  pub many_links : 1 ≤ l.nodes → l.nodes ≤ b.nodes → b.links < l.links → after_scan b l s ≡ Err LinkCount
   unfolding after_scan
   many_links e m h = simp (le-leb 1 l.nodes e, le-leb l.nodes b.nodes m, lt-leb l.links b.links h)
 
@@ -119,19 +117,19 @@ module _ (b : Bounds) (l : Layout) (s : List ℕ) where
       (ltb-true (pair_at s (at + 5)) l.nodes (and_right w x (and_left (w && x) y h)), ltb-true (pair_at s (at + 7)) l.nodes (and_right (w && x) y h))
 
   -- where nothing is found, each link and each node is good
-  pub each_link : bad_link b l s ≡ Nothing → (j : ℕ) → j < l.links → link_good b l.nodes s (link_place l j) ≡ true
+  pub each_link : bad_link b l s ≡ None → (j : ℕ) → j < l.links → link_good b l.nodes s (link_place l j) ≡ true
   unfolding bad_link link_place
   each_link e j h = all_good (link_good b l.nodes s) l.stride l.links l.link0 e j h
 
-  pub each_node : bad_node b l s ≡ Nothing → (i : ℕ) → i < l.nodes → node_good b s (node_place l i) ≡ true
+  pub each_node : bad_node b l s ≡ None → (i : ℕ) → i < l.nodes → node_good b s (node_place l i) ≡ true
   unfolding bad_node
   each_node e i h = all_good (node_good b s) 45 l.nodes l.node0 e i h
 
-  pub each_ends : bad_ends l s ≡ Nothing → (j : ℕ) → j < l.links → ends_good l s (link_place l j) ≡ true
+  pub each_ends : bad_ends l s ≡ None → (j : ℕ) → j < l.links → ends_good l s (link_place l j) ≡ true
   unfolding bad_ends link_place
   each_ends e j h = all_good (ends_good l s) l.stride l.links l.link0 e j h
 
-  pub ends_in : bad_link b l s ≡ Nothing → EndsIn l s
+  pub ends_in : bad_link b l s ≡ None → EndsIn l s
   unfolding link_start link_end
   ends_in e = record { start = λ j h. (codes_ends (link_place l j) (codes j h)).0; end = λ j h. (codes_ends (link_place l j) (codes j h)).1 }
     where
@@ -141,11 +139,11 @@ module _ (b : Bounds) (l : Layout) (s : List ℕ) where
 -- ---- refusal 1
 
 module _ (b : Bounds) (s : List ℕ) where
-  pub no_options : has_options s ≡ false → read_with b s ≡ Refused (Unreadable 0)
+  pub no_options : has_options s ≡ false → read_with b s ≡ Err (Unreadable 0)
   unfolding read_with
   no_options h = rw h
 
-  pub broken : has_options s ≡ true → (end_of s ≡ length s → ⊥) → read_with b s ≡ Refused (Unreadable (end_of s))
+  pub broken : has_options s ≡ true → (end_of s ≡ length s → ⊥) → read_with b s ≡ Err (Unreadable (end_of s))
   unfolding read_with
   broken h l = rw (h, ne_eqb (end_of s) (length s) l)
 

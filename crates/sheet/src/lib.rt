@@ -4,4 +4,4 @@
 mod reading;
 mod scan;
 
-pub use reading::{Reading, read, read_within};
+pub use reading::{read, read_within};

@@ -7,44 +7,36 @@ ghost use Rattle.sheet.specs.Read.{bad_node, bad_link, pressures_fine, bad_field
 use crate::scan::{is_record, lay_out};
 use ends::ends_good;
 use fields::{Bounds, base_bounds, link_good, node_good, options_good, pressures_good};
-use found::Found;
 use layout::{Layout, OP_SIZE, link_place, node_place};
 use nodes::count_serving;
 use refusals::Refusal;
 
-// The layout of a sheet, or why it is refused.
-#[derive(Clone, Copy)]
-pub enum Reading {
-    Good(Layout),
-    Refused(Refusal),
-}
-
 // The first node with a field outside its bounds.
-fn bad_node(sheet: &[u8], l: Layout, b: Bounds) -> Found
+fn bad_node(sheet: &[u8], l: Layout, b: Bounds) -> Option<usize>
     requires { Laid l sheet.now }
     ensures { result ≡ bad_node b l sheet.now }
 {
     for i in 0..l.nodes {
         let at = node_place(l, i);
         if !node_good(sheet, at, b) {
-            return Found::At(at);
+            return Some(at);
         }
     }
-    Found::Nothing
+    None
 }
 
 // The first link with a field outside its bounds.
-fn bad_link(sheet: &[u8], l: Layout, b: Bounds) -> Found
+fn bad_link(sheet: &[u8], l: Layout, b: Bounds) -> Option<usize>
     requires { Laid l sheet.now }
     ensures { result ≡ bad_link b l sheet.now }
 {
     for j in 0..l.links {
         let at = link_place(l, j);
         if !link_good(sheet, at, l.nodes, b) {
-            return Found::At(at);
+            return Some(at);
         }
     }
-    Found::Nothing
+    None
 }
 
 // Whether there is no PD, or one within its bounds.
@@ -59,26 +51,26 @@ fn pressures_fine(sheet: &[u8], l: Layout, b: Bounds) -> bool
 }
 
 // The first record with a field outside its bounds.
-fn bad_field(sheet: &[u8], l: Layout, b: Bounds) -> Found
+fn bad_field(sheet: &[u8], l: Layout, b: Bounds) -> Option<usize>
     requires { Laid l sheet.now }
     ensures { result ≡ bad_field b l sheet.now }
 {
     let options = options_good(sheet, b);
     let pressures = pressures_fine(sheet, l, b);
     if !options {
-        return Found::At(0);
+        return Some(0);
     }
     if !pressures {
-        return Found::At(OP_SIZE);
+        return Some(OP_SIZE);
     }
-    let Found::At(at) = bad_node(sheet, l, b) else {
+    let Some(at) = bad_node(sheet, l, b) else {
         return bad_link(sheet, l, b);
     };
-    Found::At(at)
+    Some(at)
 }
 
 // The first link whose ends are not good.
-fn bad_ends(sheet: &[u8], l: Layout) -> Found
+fn bad_ends(sheet: &[u8], l: Layout) -> Option<usize>
     requires laid { Laid l sheet.now }
     requires ends_in { EndsIn l sheet.now }
     ensures { result ≡ bad_ends l sheet.now }
@@ -86,10 +78,10 @@ fn bad_ends(sheet: &[u8], l: Layout) -> Found
     for j in 0..l.links {
         let at = link_place(l, j);
         if !ends_good(sheet, l, at) {
-            return Found::At(at);
+            return Some(at);
         }
     }
-    Found::Nothing
+    None
 }
 
 // A layout with its unknowns counted.
@@ -109,55 +101,55 @@ fn with_unknowns(sheet: &[u8], l: Layout) -> Layout
 }
 
 // Refusals 3 and 4 of a sheet that is laid out so.
-fn check(sheet: &[u8], l: Layout, b: Bounds) -> Reading
+fn check(sheet: &[u8], l: Layout, b: Bounds) -> Result<Layout, Refusal>
     requires { Laid l sheet.now }
     ensures { result ≡ checked b l sheet.now }
 {
     let field = bad_field(sheet, l, b);
-    if let Found::At(at) = field {
-        return Reading::Refused(Refusal::Field(at));
+    if let Some(at) = field {
+        return Err(Refusal::Field(at));
     }
     let ends = bad_ends(sheet, l);
-    if let Found::At(at) = ends {
-        return Reading::Refused(Refusal::Ends(at));
+    if let Some(at) = ends {
+        return Err(Refusal::Ends(at));
     }
-    Reading::Good(with_unknowns(sheet, l))
+    Ok(with_unknowns(sheet, l))
 }
 
 // Refusals 2 to 4 of a sheet that is laid out so.
-fn check_counts(sheet: &[u8], l: Layout, b: Bounds) -> Reading
+fn check_counts(sheet: &[u8], l: Layout, b: Bounds) -> Result<Layout, Refusal>
     requires { Laid l sheet.now }
     ensures { result ≡ after_scan b l sheet.now }
 {
     if l.nodes < 1 {
-        return Reading::Refused(Refusal::NodeCount);
+        return Err(Refusal::NodeCount);
     }
     if b.nodes < l.nodes {
-        return Reading::Refused(Refusal::NodeCount);
+        return Err(Refusal::NodeCount);
     }
     if b.links < l.links {
-        return Reading::Refused(Refusal::LinkCount);
+        return Err(Refusal::LinkCount);
     }
     check(sheet, l, b)
 }
 
 // The layout of a sheet within given bounds, or its refusal.
-pub fn read_within(sheet: &[u8], b: Bounds) -> Reading
+pub fn read_within(sheet: &[u8], b: Bounds) -> Result<Layout, Refusal>
     ensures { result ≡ read_with b sheet.now }
 {
     if !is_record(sheet, 0, b'O', b'P', OP_SIZE) {
-        return Reading::Refused(Refusal::Unreadable(0));
+        return Err(Refusal::Unreadable(0));
     }
     let l = lay_out(sheet);
     let end = link_place(l, l.links);
     if end != sheet.len() {
-        return Reading::Refused(Refusal::Unreadable(end));
+        return Err(Refusal::Unreadable(end));
     }
     check_counts(sheet, l, b)
 }
 
 // The layout of a sheet within document 01's bounds, or its refusal.
-pub fn read(sheet: &[u8]) -> Reading
+pub fn read(sheet: &[u8]) -> Result<Layout, Refusal>
     ensures { result ≡ read_of sheet.now }
 {
     read_within(sheet, base_bounds())

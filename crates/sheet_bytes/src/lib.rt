@@ -3,12 +3,11 @@
 #![tactic(auto)]
 
 ghost use Rattle.std.specs.Prelude.{◌≡◌, [], ◌∷◌, ◌++◌, ◌+◌, ◌≤◌, length};
-ghost use Rattle.codes.specs.Codes.{node_code, link_code, status_code};
+ghost use Rattle.codes.specs.Codes.{link_code, status_code};
 ghost use Rattle.words.specs.Buffer.{Put};
 ghost use Rattle.spelled.specs.Texts.{bytes_of};
 ghost use Rattle.sheet_bytes.specs.Bytes.{number_bytes, float_bytes, flag_byte, options_bytes, pressures_bytes, node_bytes, link_bytes};
 
-use codes::{LinkKind, NodeKind, status_code};
 use patterns::pattern;
 use records::{Link, Node, Options, Pressures};
 use words::put_byte;
@@ -62,36 +61,11 @@ fn put_five(a: f64, b: f64, c: f64, d: f64, e: f64, out: &mut [u8], at: usize) -
 }
 
 // 1 for a flag that is set, else 0.
+#[tactic(auto, unfolding(crate::specs::Bytes::flag_byte))]
 fn flag_byte(flag: bool) -> u8
     ensures { result ≡ flag_byte flag }
 {
-    if flag { 1 } else { 0 }
-}
-
-// The code of a node's kind.
-fn node_code(kind: NodeKind) -> u8
-    ensures { result ≡ node_code kind }
-{
-    match kind {
-        NodeKind::Junction => 0,
-        NodeKind::Reservoir => 1,
-        NodeKind::Tank => 2,
-    }
-}
-
-// The code of a link's kind.
-fn link_code(kind: LinkKind) -> u8
-    ensures { result ≡ link_code kind }
-{
-    match kind {
-        LinkKind::Pipe => 0,
-        LinkKind::Prv => 1,
-        LinkKind::Psv => 2,
-        LinkKind::Pbv => 3,
-        LinkKind::Fcv => 4,
-        LinkKind::Tcv => 5,
-        LinkKind::Pcv => 6,
-    }
+    u8::from(flag)
 }
 
 // OP: accuracy, damping limit, max flow change, trials, flow unit.
@@ -127,7 +101,7 @@ pub fn put_node(n: Node, out: &mut [u8], at: usize) -> usize
 {
     let kind = n.kind;
     let mut p = put_text(b"ND", out, at);
-    p = put_byte(node_code(kind), out, p);
+    p = put_byte(u8::from(kind), out, p);
     p = put_byte(flag_byte(n.disabled), out, p);
     p = put_five(n.elevation, n.demand, n.head, n.highest, n.lowest, out, p);
     put_byte(flag_byte(n.overflow), out, p)
@@ -142,9 +116,9 @@ fn put_link_codes(k: Link, out: &mut [u8], at: usize) -> usize
     let kind = k.kind;
     let status = k.status;
     let mut p = put_text(b"LK", out, at);
-    p = put_byte(link_code(kind), out, p);
+    p = put_byte(u8::from(kind), out, p);
     p = put_byte(flag_byte(k.check), out, p);
-    put_byte(status_code(status), out, p)
+    put_byte(u8::from(status), out, p)
 }
 
 // LK: kind, check valve, status, start, end, setting, minor loss, diameter, resistance, flow.

@@ -2,6 +2,8 @@
 // `G` and the counts of nodes and links, or `R` and the refusal's number and place.
 #![tactic(auto)]
 
+use layout::Layout;
+use refusals::Refusal;
 use std::io;
 use std::io::{Read, Write};
 use std::process::ExitCode;
@@ -14,10 +16,10 @@ fn line<W: Write>(writer: &mut W, mark: &[u8], x: usize, y: usize) -> io::Result
     standard::put(writer, b"\n")
 }
 
-fn show<W: Write>(writer: &mut W, reading: sheet::Reading) -> io::Result<()> {
+fn show<W: Write>(writer: &mut W, reading: Result<Layout, Refusal>) -> io::Result<()> {
     match reading {
-        sheet::Reading::Good(l) => line(writer, b"G ", l.nodes, l.links),
-        sheet::Reading::Refused(refusal) => line(
+        Ok(l) => line(writer, b"G ", l.nodes, l.links),
+        Err(refusal) => line(
             writer,
             b"R ",
             refusals::refusal_number(refusal),
@@ -30,27 +32,16 @@ fn show<W: Write>(writer: &mut W, reading: sheet::Reading) -> io::Result<()> {
 fn step<R: Read, W: Write>(reader: &mut R, writer: &mut W) -> io::Result<bool> {
     let mut head = [0u8; 4];
     let mut buffer = [0u8; 65536];
-    let next = standard::next_sheet(reader, writer, &mut head, &mut buffer)?;
-    if next.none {
+    let Some(size) = standard::next_sheet(reader, writer, &mut head, &mut buffer)? else {
         return Ok(false);
-    }
-    let size = next.size;
+    };
     show(writer, sheet::read(&buffer[..size]))?;
     Ok(true)
 }
 
-fn run(rt: &HostRuntime) -> io::Result<()> {
+fn main(rt: HostRuntime) -> ExitCode {
     let mut reader = rt.stdin();
     let mut writer = rt.stdout();
-    for _ in 0..100000u32 {
-        if !step(&mut reader, &mut writer)? {
-            return Ok(());
-        }
-    }
-    Ok(())
-}
-
-fn main(rt: HostRuntime) -> ExitCode {
-    let done = run(&rt);
+    let done = standard::take_steps(100000, || step(&mut reader, &mut writer));
     standard::ended(&rt, done)
 }

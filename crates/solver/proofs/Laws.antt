@@ -15,11 +15,7 @@ use Rattle.fields.specs.Fields.{base_bounds, null, all_within, options_good}
 use Rattle.fields.specs.declared.fields.Bounds.{Bounds}
 use Rattle.refusals.specs.Refusals.{number_of, place_of}
 use Rattle.refusals.specs.declared.refusals.Refusal.{Refusal}
-use Rattle.sheet.specs.Read.{read_of}
-use Rattle.found.specs.declared.Found.{Found}
-use Rattle.found.specs.declared.Found.TheVariants.{At, Nothing}
-use Rattle.sheet.specs.declared.reading.Reading.{Reading}
-use Rattle.sheet.specs.declared.reading.Reading.TheVariants.{Good, Refused}
+use Rattle.sheet.specs.Read.{read_of, Reading}
 use Rattle.layout.specs.declared.places.Layout.{Layout}
 use Rattle.layout.specs.Places.{link_place}
 use Rattle.nodes.specs.Nodes.{in_service}
@@ -38,17 +34,18 @@ use Rattle.answers.specs.Answers.{Lent, Solved, too_short, failed_of, refused_of
 use Rattle.conclusion.specs.Conclusion.{emptied, told}
 use Rattle.answers.specs.declared.Answer.{Answer}
 use Rattle.solver.specs.Solve.{trials_of, start_of, run_of, solved_with, after_short, after_read, solve_with}
+use Rattle.std.specs.Prelude.{Err, None, Ok, Option, Some}
 
 -- ---- a sheet that was read
 
-pub network_of : (s : List ℕ) (l : Layout) → read_of s ≡ Good l → Network l s
+pub network_of : (s : List ℕ) (l : Layout) → read_of s ≡ Ok l → Network l s
 unfolding read_of base_bounds
 network_of s l h =
     let a = accepts base_bounds s l h in
     record { laid = laid_are base_bounds s l a; nodes = a.few_nodes; links = a.few_links; ends = ends_are base_bounds s l a; unknowns = unknowns_are base_bounds s l a }
 
 -- its links join nodes, and each two of them
-pub joined_of_lem : (s : List ℕ) (l : Layout) → read_of s ≡ Good l → Joined (link_start s l) (link_end s l) l.nodes l.links
+pub joined_of_lem : (s : List ℕ) (l : Layout) → read_of s ≡ Ok l → Joined (link_start s l) (link_end s l) l.nodes l.links
 unfolding read_of link_start link_end ends_good
 joined_of_lem s l h =
     let a = accepts base_bounds s l h in
@@ -71,7 +68,7 @@ trials_in b s h =
     let g = leb (pair_at s 26) b.trials in
     leb-true (pair_at s 26) b.trials (and_right f g (and_left (f && g) (leb (byte_at s 28) b.unit) h))
 
-pub few_trials : (s : List ℕ) (l : Layout) → read_of s ≡ Good l → trials_of s ≤ 200
+pub few_trials : (s : List ℕ) (l : Layout) → read_of s ≡ Ok l → trials_of s ≤ 200
 unfolding read_of base_bounds options_of
 few_trials s l h = trials_in base_bounds s (accepts base_bounds s l h).options
 
@@ -95,20 +92,20 @@ solved_of repair s l trials b f o et ef eo = rw (← ef, ← et) eo
 -- ---- before the run
 
 module _ (repair : Repair) (s : List ℕ) (b : Lent) (reading : Reading) (read : reading ≡ read_of s) where
-  pub solve_refused : (a : Answer) (r : Refusal) → reading ≡ Refused r → a ≡ failed_of (number_of r) (place_of r) none → record { answer = a; lent = b } ≡ solve_with repair s b
+  pub solve_refused : (a : Answer) (r : Refusal) → reading ≡ Err r → a ≡ failed_of (number_of r) (place_of r) none → record { answer = a; lent = b } ≡ solve_with repair s b
   unfolding solve_with after_read refused_of
   solve_refused a r e ea = rw (← read, e, ea)
 
-  pub solve_good : (o : Solved) (l : Layout) → reading ≡ Good l → o ≡ after_read repair s b (Good l) → o ≡ solve_with repair s b
+  pub solve_good : (o : Solved) (l : Layout) → reading ≡ Ok l → o ≡ after_read repair s b (Ok l) → o ≡ solve_with repair s b
   unfolding solve_with
   solve_good o l e eo = rw (← read, e) eo
 
-module _ (repair : Repair) (s : List ℕ) (b : Lent) (l : Layout) (trials : ℕ) (f : Found) (allowed : trials ≡ trials_of s)
+module _ (repair : Repair) (s : List ℕ) (b : Lent) (l : Layout) (trials : ℕ) (f : Option ℕ) (allowed : trials ≡ trials_of s)
     (short : f ≡ too_short l trials (length b.heads) (length b.demands) (length b.flows) (length b.statuses) (length b.entries) (length b.scratch)) where
-  pub solve_short : (a : Answer) (place : ℕ) → f ≡ At place → a ≡ failed_of 5 place none → record { answer = a; lent = b } ≡ after_read repair s b (Good l)
+  pub solve_short : (a : Answer) (place : ℕ) → f ≡ Some place → a ≡ failed_of 5 place none → record { answer = a; lent = b } ≡ after_read repair s b (Ok l)
   unfolding after_read after_short refused_of
   solve_short a place e ea = rw (← allowed, ← short, e, ea)
 
-  pub solve_runs : (o : Solved) → f ≡ Nothing → o ≡ solved_with repair s l b → o ≡ after_read repair s b (Good l)
+  pub solve_runs : (o : Solved) → f ≡ None → o ≡ solved_with repair s l b → o ≡ after_read repair s b (Ok l)
   unfolding after_read after_short
   solve_runs o e eo = rw (← allowed, ← short, e) eo

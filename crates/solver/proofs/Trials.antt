@@ -4,11 +4,7 @@ use mathlib.Core.Path.{◌≡◌, refl, sym}
 use mathlib.Core.List.{List}
 use native.Mathlib.Omega.{arith}
 use lib.ListN.{length}
-use Rattle.sheet.specs.Read.{read_of}
-use Rattle.found.specs.declared.Found.{Found}
-use Rattle.found.specs.declared.Found.TheVariants.{At, Nothing}
-use Rattle.sheet.specs.declared.reading.Reading.{Reading}
-use Rattle.sheet.specs.declared.reading.Reading.TheVariants.{Good, Refused}
+use Rattle.sheet.specs.Read.{read_of, Reading}
 use Rattle.layout.specs.declared.places.Layout.{Layout}
 use Rattle.state.specs.State.{State}
 use Rattle.trial.specs.Trial.{Repair}
@@ -22,6 +18,7 @@ use Rattle.answers.specs.Answers.{Lent, too_short, refused_of, failed_of}
 use Rattle.conclusion.specs.Conclusion.{unsolved, delivered, told}
 use Rattle.solver.specs.Solve.{trials_of, start_of, run_of, solved_with, after_short, after_read, solve_with}
 use Rattle.solver.proofs.Laws.{few_trials}
+use Rattle.std.specs.Prelude.{Err, None, Ok, Option, Some}
 
 told_trials : (s : List ℕ) (l : Layout) (trials : ℕ) (b : Lent) (t : State) (tally : Tally) (bytes : List ℕ) (ended : Ended) → (told s l trials b t tally bytes ended).answer.trials ≡ tally.trials
 unfolding told delivered unsolved failed_of
@@ -42,19 +39,19 @@ solved_trials repair s l b =
     let f = run_of repair s l b.entries in
     rw (told_trials s l (trials_of s) b f.state f.ran.tally f.bytes f.ran.ended) (run_trials repair s l b.entries)
 
-short_trials : (repair : Repair) (s : List ℕ) (l : Layout) (b : Lent) (f : Found) → (after_short repair s l b f).answer.trials ≤ trials_of s
+short_trials : (repair : Repair) (s : List ℕ) (l : Layout) (b : Lent) (f : Option ℕ) → (after_short repair s l b f).answer.trials ≤ trials_of s
 unfolding after_short refused_of failed_of
-short_trials repair s l b (At place) = omega arith
-short_trials repair s l b Nothing = solved_trials repair s l b
+short_trials repair s l b (Some place) = omega arith
+short_trials repair s l b None = solved_trials repair s l b
 
 read_trials : (repair : Repair) (s : List ℕ) (b : Lent) (reading : Reading) → reading ≡ read_of s → (after_read repair s b reading).answer.trials ≤ 200
 unfolding after_read refused_of failed_of
-read_trials repair s b (Refused r) e = omega arith
-read_trials repair s b (Good l) e =
+read_trials repair s b (Err r) e = omega arith
+read_trials repair s b (Ok l) e =
     omega (arith, few_trials s l (sym e), short_trials repair s l b (too_short l (trials_of s) (length b.heads) (length b.demands) (length b.flows) (length b.statuses) (length b.entries) (length b.scratch)))
 
 -- and at most as many as its sheet allows
-pub allowed_trials : (repair : Repair) (s : List ℕ) (l : Layout) (b : Lent) → read_of s ≡ Good l → (solve_with repair s b).answer.trials ≤ trials_of s
+pub allowed_trials : (repair : Repair) (s : List ℕ) (l : Layout) (b : Lent) → read_of s ≡ Ok l → (solve_with repair s b).answer.trials ≤ trials_of s
 unfolding solve_with after_read
 allowed_trials repair s l b e =
     rw e

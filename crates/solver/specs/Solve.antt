@@ -1,12 +1,8 @@
 -- The whole solve: from a sheet and six lent buffers to an answer and the buffers after it. Definitions only.
-use Rattle.std.specs.Prelude.{ℕ, List, length}
+use Rattle.std.specs.Prelude.{ℕ, List, length, Err, None, Ok, Option, Some}
 use Rattle.records.specs.Records.{options_of}
 use Rattle.refusals.specs.Refusals.{number_of, place_of}
-use Rattle.sheet.specs.Read.{read_of}
-use Rattle.found.specs.declared.Found.{Found}
-use Rattle.found.specs.declared.Found.TheVariants.{At, Nothing}
-use Rattle.sheet.specs.declared.reading.Reading.{Reading}
-use Rattle.sheet.specs.declared.reading.Reading.TheVariants as reading
+use Rattle.sheet.specs.Read.{read_of, Reading}
 use Rattle.layout.specs.declared.places.Layout.{Layout}
 use Rattle.trial.specs.Trial.{Repair, repair_of}
 use Rattle.entries.specs.Entries.{damping_start, none}
@@ -31,15 +27,15 @@ solved_with repair s l b =
     let f = run_of repair s l b.entries in
     told s l (trials_of s) b f.state f.ran.tally f.bytes f.ran.ended
 
-unfoldable pub after_short : Repair → List ℕ → Layout → Lent → Found → Solved
+unfoldable pub after_short : Repair → List ℕ → Layout → Lent → Option ℕ → Solved
 unfolding solved_with refused_of
-after_short repair s l b (At place) = refused_of 5 place b
-after_short repair s l b Nothing = solved_with repair s l b
+after_short repair s l b (Some place) = refused_of 5 place b
+after_short repair s l b None = solved_with repair s l b
 
 unfoldable pub after_read : Repair → List ℕ → Lent → Reading → Solved
 unfolding after_short refused_of too_short
-after_read repair s b (reading.Refused r) = refused_of (number_of r) (place_of r) b
-after_read repair s b (reading.Good l) =
+after_read repair s b (Err r) = refused_of (number_of r) (place_of r) b
+after_read repair s b (Ok l) =
     after_short repair s l b
     (too_short l (trials_of s) (length b.heads) (length b.demands) (length b.flows) (length b.statuses) (length b.entries) (length b.scratch))
 

@@ -2,7 +2,6 @@
 #![tactic(auto)]
 
 ghost use Rattle.std.specs.Prelude.{◌≡◌, ◌*◌, ◌≤◌, length};
-ghost use Rattle.power.specs.Tables.{power_table};
 ghost use Rattle.sheet.specs.Read.{read_of};
 ghost use Rattle.state.specs.State.{state};
 ghost use Rattle.answers.specs.Answers.{lent, Enough};
@@ -11,17 +10,16 @@ ghost use Rattle.trial.specs.Trial.{Room, repair_of};
 ghost use Rattle.solver.specs.Solve.{trials_of, start_of, run_of, solved_with, after_read, solve_of};
 
 use answers::Answer;
-use found::Found;
 use layout::Layout;
+use power::PowerTable;
 use runs::Ran;
-use sheet::Reading;
 
 // The run of a sheet that was read, from its first columns. The power's table is lent down to here: it
 // is built where the sheet was read, once for many solves.
 fn run(
     sheet: &[u8],
     l: Layout,
-    table: &[u64; 1153],
+    table: &PowerTable,
     trials: usize,
     h: &mut [f64],
     d: &mut [f64],
@@ -32,12 +30,11 @@ fn run(
     entries: &mut [u8],
     scratch: &mut [f64],
 ) -> Ran
-    requires sheet_value { read_of sheet.now ≡ Reading.Good l }
+    requires sheet_value { read_of sheet.now ≡ Ok l }
     requires trials_value { trials ≡ trials_of sheet.now }
     requires z_value { state h.old d.old f.old q.old c.old z.old ≡ start_of sheet.now l }
     requires room { Room l (state h.old d.old f.old q.old c.old z.old) }
     requires trials_in_bounds { (4 * trials ≤ length entries.old) × (4096 ≤ length scratch.old) }
-    requires table_value { table.now ≡ power_table }
     ensures state { record { ran = result; bytes = entries.new; state = state h.new d.new f.new q.new c.new z.new } ≡ run_of repair_of sheet.now l entries.old }
     ensures emptied { scratch.new ≡ emptied scratch.old }
 {
@@ -70,7 +67,7 @@ fn run(
 fn solved(
     sheet: &[u8],
     l: Layout,
-    table: &[u64; 1153],
+    table: &PowerTable,
     trials: usize,
     heads: &mut [f64],
     demands: &mut [f64],
@@ -79,10 +76,9 @@ fn solved(
     entries: &mut [u8],
     scratch: &mut [f64],
 ) -> Answer
-    requires sheet_value { read_of sheet.now ≡ Reading.Good l }
+    requires sheet_value { read_of sheet.now ≡ Ok l }
     requires trials_value { trials ≡ trials_of sheet.now }
     requires enough { Enough l trials (lent heads.old demands.old flows.old statuses.old entries.old scratch.old) }
-    requires table_value { table.now ≡ power_table }
     ensures { record { answer = result; lent = lent heads.new demands.new flows.new statuses.new entries.new scratch.new } ≡ solved_with repair_of sheet.now l (lent heads.old demands.old flows.old statuses.old entries.old scratch.old) }
 {
     let mut h = [0.0f64; 64];
@@ -106,7 +102,7 @@ fn solved(
 pub fn solve_read(
     sheet: &[u8],
     l: Layout,
-    table: &[u64; 1153],
+    table: &PowerTable,
     heads: &mut [f64],
     demands: &mut [f64],
     flows: &mut [f64],
@@ -114,9 +110,8 @@ pub fn solve_read(
     entries: &mut [u8],
     scratch: &mut [f64],
 ) -> Answer
-    requires sheet_value { read_of sheet.now ≡ Reading.Good l }
-    requires table_value { table.now ≡ power_table }
-    ensures { record { answer = result; lent = lent heads.new demands.new flows.new statuses.new entries.new scratch.new } ≡ after_read repair_of sheet.now (lent heads.old demands.old flows.old statuses.old entries.old scratch.old) (Reading.Good l) }
+    requires sheet_value { read_of sheet.now ≡ Ok l }
+    ensures { record { answer = result; lent = lent heads.new demands.new flows.new statuses.new entries.new scratch.new } ≡ after_read repair_of sheet.now (lent heads.old demands.old flows.old statuses.old entries.old scratch.old) (Ok l) }
 {
     let options = records::options_of(sheet);
     let trials = options.trials;
@@ -130,8 +125,8 @@ pub fn solve_read(
         entries.len(),
         scratch.len(),
     ) {
-        Found::At(place) => answers::refused(5, place),
-        Found::Nothing => solved(
+        Some(place) => answers::refused(5, place),
+        None => solved(
             sheet, l, table, trials, heads, demands, flows, statuses, entries, scratch,
         ),
     }
@@ -149,8 +144,8 @@ pub fn solve(
     ensures { record { answer = result; lent = lent heads.new demands.new flows.new statuses.new entries.new scratch.new } ≡ solve_of sheet.now (lent heads.old demands.old flows.old statuses.old entries.old scratch.old) }
 {
     match sheet::read(sheet) {
-        Reading::Refused(r) => answers::refuse(r),
-        Reading::Good(l) => {
+        Err(r) => answers::refuse(r),
+        Ok(l) => {
             let table = power::power_table();
             solve_read(
                 sheet, l, &table, heads, demands, flows, statuses, entries, scratch,

@@ -2,13 +2,14 @@
 use mathlib.Core.Path.{◌≡◌, refl, sym, ap, ◌∙◌}
 use mathlib.Core.Bool.{Bool, true, false, ◌&&◌, false≢true}
 use mathlib.Core.List.{List, [], ◌∷◌}
-use Prim.Native.Nat.{ℕ, zero, suc, ◌+◌, ◌≤◌, ◌<◌}
+use Prim.Native.Nat.{ℕ, suc, ◌+◌, ◌≤◌, ◌<◌}
 use native.Mathlib.Numerals.{add-one}
 use native.Mathlib.Omega.{arith}
 use lib.Dec.{eqb}
 use borrow.Author.Tests.{eq-eqb, ne_eqb, eqb-true}
 use lib.ListN.{length, get_or, drop, drop_of_length-le}
 use lib.Seq.{drop-cons}
+use Rattle.std.specs.Str.{bytes_eq}
 use Rattle.spelled.specs.Spelled.{agree, itself, same_bytes}
 
 module _ (f : ℕ → ℕ) where
@@ -69,3 +70,11 @@ pub itself_same : (a : List ℕ) → same_bytes a a ≡ true
 unfolding same_bytes agree itself
 itself_same [] = refl
 itself_same (c ∷ cs) = rw (eq-eqb c c refl) (itself_same cs)
+
+-- std says the same by its own word
+pub same_is_eq : (a b : List ℕ) → bytes_eq a b ≡ same_bytes a b
+unfolding same_bytes agree itself
+same_is_eq [] [] = refl
+same_is_eq [] (k ∷ ks) = refl
+same_is_eq (c ∷ cs) [] = refl
+same_is_eq (c ∷ cs) (k ∷ ks) = ap (λ (t : Bool). eqb c k && t) (same_is_eq cs ks)

@@ -5,10 +5,9 @@ use Prim.Native.Nat.{ℕ, zero, suc}
 use lib.ListN.{length, length-set}
 use lib.Ieee.{Float}
 use Rattle.layout.specs.declared.places.Layout.{Layout}
-use Rattle.numbering.specs.Numbering.{row_at}
-use Rattle.numbering.specs.declared.Row.{Row}
-use Rattle.numbering.specs.declared.Row.TheVariants.{Unknown, Fixed}
+use Rattle.numbering.specs.Numbering.{row_at, Row}
 use Rattle.state.specs.State.{heads_from, demands_from, flows_from, codes_from, with_head, solved_heads}
+use Rattle.std.specs.Prelude.{None, Some}
 
 pub heads_long : (s : List ℕ) (l : Layout) (i : ℕ) (x : List Float) → length (heads_from s l i x) ≡ length x
 unfolding heads_from
@@ -32,8 +31,8 @@ codes_long s l (suc i) x = length-set (codes_from s l i x) i _ ∙ codes_long s 
 
 pub head_long : (row : Row) (x : List Float) (i : ℕ) (h : List Float) → length (with_head row x i h) ≡ length h
 unfolding with_head
-head_long (Unknown u) x i h = length-set h _ _
-head_long Fixed x i h = refl
+head_long (Some u) x i h = length-set h _ _
+head_long None x i h = refl
 
 pub solved_long : (s : List ℕ) (l : Layout) (x : List Float) (i : ℕ) (h : List Float) → length (solved_heads s l x i h) ≡ length h
 unfolding solved_heads

@@ -11,11 +11,10 @@ use Rattle.records.specs.declared.records.Node.{Node}
 use Rattle.records.specs.declared.records.Link.{Link}
 use Rattle.nodes.specs.Nodes.{node_of}
 use Rattle.links.specs.Links.{link_of, link_status}
-use Rattle.numbering.specs.Numbering.{row_at}
-use Rattle.numbering.specs.declared.Row.{Row}
-use Rattle.numbering.specs.declared.Row.TheVariants.{Unknown, Fixed}
+use Rattle.numbering.specs.Numbering.{row_at, Row}
 use Rattle.linear.specs.declared.factorization.UnknownIndex.{UnknownIndex}
 use Rattle.state.specs.State.{heads_from, demands_from, flows_from, codes_from, with_head, solved_heads}
+use Rattle.std.specs.Prelude.{None, Some}
 
 -- ---- nodes: the columns h and d after i nodes, from h₀ and d₀
 
@@ -68,11 +67,11 @@ next_link s l q₀ c₀ q c j w more k code p r =
 
 -- ---- the heads that a step puts in
 
-pub head_fixed : (row : Row) (x : List Float) (i : ℕ) (h : List Float) → row ≡ Fixed → h ≡ with_head row x i h
+pub head_fixed : (row : Row) (x : List Float) (i : ℕ) (h : List Float) → row ≡ None → h ≡ with_head row x i h
 unfolding with_head
 head_fixed row x i h e = rw e
 
-pub head_unknown : (row : Row) (u : UnknownIndex) (x : List Float) (i : ℕ) (h : List Float) → row ≡ Unknown u → set h i (get_or x u.0 nan) ≡ with_head row x i h
+pub head_unknown : (row : Row) (u : UnknownIndex) (x : List Float) (i : ℕ) (h : List Float) → row ≡ Some u → set h i (get_or x u.0 nan) ≡ with_head row x i h
 unfolding with_head
 head_unknown row u x i h e = rw e
 

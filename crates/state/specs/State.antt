@@ -1,12 +1,10 @@
 -- state.rs: the columns of a solve, what they start from, and the heads that a step puts in. Definitions only.
-use Rattle.std.specs.Prelude.{ℕ, zero, suc, Bool, List, get_or, set, Float}
+use Rattle.std.specs.Prelude.{ℕ, zero, suc, Bool, List, get_or, set, Float, None, Some}
 use Rattle.std.specs.Float.{nan}
 use Rattle.layout.specs.declared.places.Layout.{Layout}
 use Rattle.nodes.specs.Nodes.{node_of}
 use Rattle.links.specs.Links.{link_of, link_status}
-use Rattle.numbering.specs.Numbering.{row_at}
-use Rattle.numbering.specs.declared.Row.{Row}
-use Rattle.numbering.specs.declared.Row.TheVariants.{Unknown, Fixed}
+use Rattle.numbering.specs.Numbering.{row_at, Row}
 
 -- a head, a demand (what it asks) and a drawn flow for each node, a flow and a status code for each link, and the nodes that were grounded
 pub record State : Type 0 where
@@ -39,8 +37,8 @@ codes_from s l (suc j) x = set (codes_from s l j x) j (link_status s l j)
 
 -- the head of node i, which has this row, from the solved unknowns x; a node that is no unknown keeps its own
 unfoldable pub with_head : Row → List Float → ℕ → List Float → List Float
-with_head (Unknown u) x i h = set h i (get_or x u.0 nan)
-with_head Fixed x i h = h
+with_head (Some u) x i h = set h i (get_or x u.0 nan)
+with_head None x i h = h
 
 -- and of the first i nodes
 unfoldable pub solved_heads : List ℕ → Layout → List Float → ℕ → List Float → List Float

@@ -45,7 +45,7 @@ fn put_head(row: Row, x: &[f64], i: usize, heads: &mut [f64])
     requires row_below { RowBelow 64 row }
     ensures { heads.new ≡ with_head row x.now i heads.old }
 {
-    let Row::Unknown(u) = row else {
+    let Some(u) = row else {
         return;
     };
     let k = u.0;
@@ -58,10 +58,8 @@ pub fn put_heads(sheet: &[u8], l: Layout, unknowns: &[usize], x: &[f64], heads: 
     requires rows_right { RowsRight l sheet.now unknowns.now }
     ensures { heads.new ≡ solved_heads sheet.now l x.now l.nodes heads.old }
 {
-    let mut i: usize = 0;
-    while i < l.nodes {
+    for i in 0..l.nodes {
         let row = unknown_of(unknowns, NodeIndex(i));
         put_head(row, x, i, heads);
-        i += 1;
     }
 }

@@ -9,40 +9,24 @@ use constants::{H_TOL, Q_TOL};
 use records::{LinkKind, Status};
 
 // The new status of a link and its cause, if a rule gives one.
-#[derive(Clone, Copy)]
-pub enum Change {
-    Stays,
-    Becomes(Status, Cause),
-}
+pub type Change = Option<(Status, Cause)>;
 
 // A pipe that a tank shut opens again.
 fn pipe_status(status: Status) -> Change
     ensures { result ≡ pipe_status status }
 {
     match status {
-        Status::TempClosed => Change::Becomes(Status::Open, Cause::Reopened),
-        _ => Change::Stays,
+        Status::TempClosed => Some((Status::Open, Cause::Reopened)),
+        _ => None,
     }
 }
 
-// Open with its cause, if the test holds.
-fn opens_if(test: bool, cause: Cause) -> Change
-    ensures { result ≡ becomes_if test Status.Open cause }
+// A status with its cause, if the test holds.
+#[tactic(auto, unfolding(crate::specs::Rules::becomes_if))]
+fn becomes_if(test: bool, status: Status, cause: Cause) -> Change
+    ensures { result ≡ becomes_if test status cause }
 {
-    if test {
-        return Change::Becomes(Status::Open, cause);
-    }
-    Change::Stays
-}
-
-// Active with its cause, if the test holds.
-fn regulates_if(test: bool, cause: Cause) -> Change
-    ensures { result ≡ becomes_if test Status.Active cause }
-{
-    if test {
-        return Change::Becomes(Status::Active, cause);
-    }
-    Change::Stays
+    if test { Some((status, cause)) } else { None }
 }
 
 // Closed if the flow is negative.
@@ -50,7 +34,7 @@ fn closed_if_negative(q: f64, change: Change) -> Change
     ensures { result ≡ closed_if_negative q change }
 {
     if q < -Q_TOL {
-        return Change::Becomes(Status::Closed, Cause::ReverseFlow);
+        return Some((Status::Closed, Cause::ReverseFlow));
     }
     change
 }
@@ -59,27 +43,27 @@ fn closed_if_negative(q: f64, change: Change) -> Change
 fn prv_status(target: f64, status: Status, q: f64, head_start: f64, head_end: f64) -> Change
     ensures { result ≡ prv_status target status q head_start head_end }
 {
+    let inlet_low = head_start < target - H_TOL;
+    let outlet_high = head_end > target + H_TOL;
     match status {
         Status::Active => {
-            closed_if_negative(q, opens_if(head_start < target - H_TOL, Cause::InletTooLow))
+            closed_if_negative(q, becomes_if(inlet_low, Status::Open, Cause::InletTooLow))
         }
         Status::Open => {
             closed_if_negative(
                 q,
-                regulates_if(head_end > target + H_TOL, Cause::OutletTooHigh),
+                becomes_if(outlet_high, Status::Active, Cause::OutletTooHigh),
             )
         }
         Status::Closed => {
             if (head_start >= target + H_TOL) & (head_end < target - H_TOL) {
-                return Change::Becomes(Status::Active, Cause::Reopened);
+                return Some((Status::Active, Cause::Reopened));
             }
-            opens_if(
-                (head_start < target - H_TOL) & (head_start > head_end + H_TOL),
-                Cause::Reopened,
-            )
+            let opens = inlet_low & (head_start > head_end + H_TOL);
+            becomes_if(opens, Status::Open, Cause::Reopened)
         }
-        Status::XPressure => closed_if_negative(q, Change::Stays),
-        _ => Change::Stays,
+        Status::XPressure => closed_if_negative(q, None),
+        _ => None,
     }
 }
 
@@ -87,27 +71,28 @@ fn prv_status(target: f64, status: Status, q: f64, head_start: f64, head_end: f6
 fn psv_status(target: f64, status: Status, q: f64, head_start: f64, head_end: f64) -> Change
     ensures { result ≡ psv_status target status q head_start head_end }
 {
+    let inlet_low = head_start < target - H_TOL;
+    let outlet_high = head_end > target + H_TOL;
     match status {
         Status::Active => {
-            closed_if_negative(q, opens_if(head_end > target + H_TOL, Cause::OutletTooHigh))
-        }
-        Status::Open => {
             closed_if_negative(
                 q,
-                regulates_if(head_start < target - H_TOL, Cause::InletTooLow),
+                becomes_if(outlet_high, Status::Open, Cause::OutletTooHigh),
             )
+        }
+        Status::Open => {
+            closed_if_negative(q, becomes_if(inlet_low, Status::Active, Cause::InletTooLow))
         }
         Status::Closed => {
-            if (head_end > target + H_TOL) & (head_start > head_end + H_TOL) {
-                return Change::Becomes(Status::Open, Cause::Reopened);
+            let falls = head_start > head_end + H_TOL;
+            if outlet_high & falls {
+                return Some((Status::Open, Cause::Reopened));
             }
-            regulates_if(
-                (head_start > target + H_TOL) & (head_start > head_end + H_TOL),
-                Cause::Reopened,
-            )
+            let regulates = (head_start > target + H_TOL) & falls;
+            becomes_if(regulates, Status::Active, Cause::Reopened)
         }
-        Status::XPressure => closed_if_negative(q, Change::Stays),
-        _ => Change::Stays,
+        Status::XPressure => closed_if_negative(q, None),
+        _ => None,
     }
 }
 
@@ -128,18 +113,15 @@ pub fn updated(
         LinkKind::Pipe => pipe_status(status),
         LinkKind::Prv => prv_status(setting + elevation_end, status, q, head_start, head_end),
         LinkKind::Psv => psv_status(setting + elevation_start, status, q, head_start, head_end),
-        _ => Change::Stays,
+        _ => None,
     }
 }
 
 // Whether a valve regulates.
+#[tactic(auto, unfolding(crate::specs::Rules::is_active))]
 pub fn is_active(status: Status) -> bool
     ensures { result ≡ is_active status }
 {
-    match status {
-        Status::Active => true,
-        // a freed valve holds nothing
-        Status::XPressure | Status::Xhead => false,
-        _ => false,
-    }
+    // a freed valve holds nothing
+    matches!(status, Status::Active)
 }

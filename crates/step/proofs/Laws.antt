@@ -6,9 +6,6 @@ use mathlib.Core.Bool.{Bool, true, false}
 use lib.Ieee.{Float}
 use Rattle.records.specs.Records.{options_of}
 use Rattle.records.specs.declared.records.Options.{Options}
-use Rattle.found.specs.declared.Found.{Found}
-use Rattle.found.specs.declared.Found.TheVariants.{At, Nothing}
-use Rattle.causes.specs.declared.Flip.{Flip}
 use Rattle.damping.specs.Damping.{damped_of, relative_change, converged_of}
 use Rattle.state.specs.State.{State, state, solved_heads}
 use Rattle.wild.specs.Wild.{wild_place}
@@ -22,6 +19,8 @@ use Rattle.damping.specs.declared.steps.Damping.{Damping}
 use Rattle.entries.specs.declared.Entry.{Entry}
 use Rattle.entries.specs.declared.Entry.TheVariants.{Wild, Stepped, Converged}
 use Rattle.step.specs.Step.{outcome, judged, step_entry, step_of}
+use Rattle.std.specs.Prelude.{None, Option, Some}
+use Rattle.causes.specs.Causes.{Flip}
 
 -- ---- what it comes to
 
@@ -35,12 +34,12 @@ module _ (o : Options) (d : Damping) (m : Stats) (flip : Flip) (change : Float) 
   unfolding judged
   judged_stepped factor f t = rw (← moved, ← tested, t, f)
 
-module _ (o : Options) (d : Damping) (f : Found) (m : Stats) (flip : Flip) where
-  pub entry_wild : (p : ℕ) → f ≡ At p → Wild p ≡ step_entry f o d m flip
+module _ (o : Options) (d : Damping) (f : Option ℕ) (m : Stats) (flip : Flip) where
+  pub entry_wild : (p : ℕ) → f ≡ Some p → Wild p ≡ step_entry f o d m flip
   unfolding step_entry
   entry_wild p e = rw e
 
-  pub entry_judged : (o' : Options) (r : Entry) → f ≡ Nothing → o' ≡ o → r ≡ judged o' d m flip → r ≡ step_entry f o d m flip
+  pub entry_judged : (o' : Options) (r : Entry) → f ≡ None → o' ≡ o → r ≡ judged o' d m flip → r ≡ step_entry f o d m flip
   unfolding step_entry
   entry_judged o' r e h j = rw (e, ← h) j
 

@@ -1,10 +1,7 @@
 -- Document 01, item 8: the step of a trial whose matrix was factored. Definitions only.
-use Rattle.std.specs.Prelude.{ℕ, ◌≤◌, cond, List, length, Float}
+use Rattle.std.specs.Prelude.{ℕ, ◌≤◌, cond, List, length, Float, None, Option, Some}
 use Rattle.records.specs.Records.{options_of}
 use Rattle.records.specs.declared.records.Options.{Options}
-use Rattle.found.specs.declared.Found.{Found}
-use Rattle.found.specs.declared.Found.TheVariants.{At, Nothing}
-use Rattle.causes.specs.declared.Flip.{Flip}
 use Rattle.damping.specs.Damping.{damped_of, relative_change, converged_of}
 use Rattle.state.specs.State.{State, state, solved_heads}
 use Rattle.wild.specs.Wild.{wild_place}
@@ -16,6 +13,7 @@ use Rattle.drawn.specs.Drawn.{draws, drawn_of}
 use Rattle.entries.specs.declared.Entry.{Entry}
 use Rattle.entries.specs.declared.Entry.TheVariants.{Wild, Stepped, Converged}
 use Rattle.damping.specs.declared.steps.Damping.{Damping}
+use Rattle.causes.specs.Causes.{Flip}
 
 -- what a trial came to, and the state that it leaves
 pub record Outcome : Type 0 where
@@ -33,10 +31,10 @@ judged o d m flip =
     (Stepped (record { factor = damped_of d.factor d.previous change o.damping; previous = change }) flip)
 
 -- the test for 7 comes first
-unfoldable pub step_entry : Found → Options → Damping → Stats → Flip → Entry
+unfoldable pub step_entry : Option ℕ → Options → Damping → Stats → Flip → Entry
 unfolding judged
-step_entry (At place) o d m flip = Wild place
-step_entry Nothing o d m flip = judged o d m flip
+step_entry (Some place) o d m flip = Wild place
+step_entry None o d m flip = judged o d m flip
 
 -- a step with the solved unknowns x: heads, flows and statuses, tank links, drawn flows, then what it comes to
 unfoldable pub step_of : List ℕ → Layout → Damping → State → List Float → List Float → List Float → Outcome

@@ -12,7 +12,6 @@ ghost use Rattle.step.specs.Step.{Room, outcome, judged, step_of};
 use causes::Flip;
 use damping::Damping;
 use entries::Entry;
-use found::Found;
 use layout::Layout;
 use records::Options;
 use update::Stats;
@@ -71,7 +70,7 @@ pub fn step(
     tanks::tank_links(sheet, l, places, listed, heads, flows, demands, statuses);
     let stats = drawn::update_drawn(sheet, l, heads, d.factor, demands, drawn, moved);
     match wild::wild_place(l, heads, flows, drawn) {
-        Found::At(place) => Entry::Wild(place),
-        Found::Nothing => judge(records::options_of(sheet), d, stats, flip),
+        Some(place) => Entry::Wild(place),
+        None => judge(records::options_of(sheet), d, stats, flip),
     }
 }

@@ -1,16 +1,10 @@
 -- One call that takes a trial of a solve whose state the caller holds. Definitions only.
-use Rattle.std.specs.Prelude.{ℕ, List, Bool, cond, not, eqb, length, get_or}
+use Rattle.std.specs.Prelude.{ℕ, List, Bool, cond, not, eqb, length, get_or, Err, None, Ok, Option, Some}
 use Rattle.refusals.specs.Refusals.{number_of, place_of}
-use Rattle.sheet.specs.Read.{read_of}
-use Rattle.found.specs.declared.Found.{Found}
-use Rattle.found.specs.declared.Found.TheVariants.{At, Nothing}
-use Rattle.sheet.specs.declared.reading.Reading.{Reading}
-use Rattle.sheet.specs.declared.reading.Reading.TheVariants.{Good, Refused}
+use Rattle.sheet.specs.Read.{read_of, Reading}
 use Rattle.layout.specs.declared.places.Layout.{Layout}
 use Rattle.damping.specs.declared.steps.Damping.{Damping}
 use Rattle.trial.specs.Trial.{Repair, repair_of}
-use Rattle.entries.specs.declared.Going.{Going}
-use Rattle.entries.specs.declared.Going.TheVariants.{On, Over}
 use Rattle.runs.specs.Run.{Turned}
 use Rattle.answers.specs.Answers.{Lent, lent, too_short}
 use Rattle.conclusion.specs.Conclusion.{emptied, told}
@@ -18,6 +12,8 @@ use Rattle.turns.specs.Turns.{follows, next_turn}
 use Rattle.solver.specs.Solve.{trials_of}
 use Rattle.held.specs.Held.{Held, state_in, damping_in, tally_in, answer_in, held_of, more, answered, refusal}
 use Rattle.held.specs.declared.Taken.{Taken}
+use Rattle.std.proofs.Common.{Break, Continue}
+use Rattle.entries.specs.Entries.{Going}
 
 -- what is told, what is held and what was lent after it
 pub record Took : Type 0 where
@@ -30,14 +26,14 @@ unchanged t h b = record { taken = t; held = h; lent = b }
 
 -- after the turn u, taken with the damping d: more, or the end of the run as a solve tells it
 unfoldable pub after_turn : List ℕ → Layout → ℕ → Damping → Lent → Turned → Going → Took
-after_turn s l trials d b u (On next) =
+after_turn s l trials d b u (Continue next) =
     let t = more u.turn.tally in
     record {
       taken = t;
       held = held_of u.state next t;
       lent = lent b.heads b.demands b.flows b.statuses u.bytes (emptied b.scratch);
     }
-after_turn s l trials d b u (Over z) =
+after_turn s l trials d b u (Break z) =
     let o = told s l trials b u.state u.turn.tally u.bytes z in
     record { taken = answered o.answer; held = held_of u.state d (answered o.answer); lent = o.lent }
 
@@ -51,16 +47,16 @@ take_turn repair s l h b =
     after_turn s l trials d b u (follows trials u.turn.tally u.turn.going)
 
 -- 5 for a buffer that is too short
-unfoldable pub take_lent : Repair → List ℕ → Layout → Held → Lent → Found → Took
+unfoldable pub take_lent : Repair → List ℕ → Layout → Held → Lent → Option ℕ → Took
 unfolding take_turn
-take_lent repair s l h b (At place) = unchanged (refusal 5 place) h b
-take_lent repair s l h b Nothing = take_turn repair s l h b
+take_lent repair s l h b (Some place) = unchanged (refusal 5 place) h b
+take_lent repair s l h b None = take_turn repair s l h b
 
 -- 1 to 4 for a sheet that is not good
 unfoldable pub take_read : Repair → List ℕ → Held → Lent → Reading → Took
 unfolding take_lent
-take_read repair s h b (Refused r) = unchanged (refusal (number_of r) (place_of r)) h b
-take_read repair s h b (Good l) =
+take_read repair s h b (Err r) = unchanged (refusal (number_of r) (place_of r)) h b
+take_read repair s h b (Ok l) =
     take_lent repair s l h b
     (too_short l (trials_of s) (length b.heads) (length b.demands) (length b.flows) (length b.statuses) (length b.entries) (length b.scratch))
 

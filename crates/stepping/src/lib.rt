@@ -9,11 +9,9 @@ ghost use Rattle.solver.specs.Solve.{trials_of};
 ghost use Rattle.held.specs.Held.{held};
 ghost use Rattle.stepping.specs.Taking.{take_turn, take_of};
 
-use entries::Going;
-use found::Found;
-use held::{Taken, keep, more, refused};
+use held::{Taken, Told, keep, more, refused};
 use layout::Layout;
-use sheet::Reading;
+use std::ops::ControlFlow;
 
 // The next trial, and the answer where it was the last.
 fn take_one(
@@ -35,7 +33,7 @@ fn take_one(
     entries: &mut [u8],
     scratch: &mut [f64],
 ) -> Taken
-    requires sheet_value { read_of sheet.now ≡ Reading.Good l }
+    requires sheet_value { read_of sheet.now ≡ Ok l }
     requires trials_value { trials ≡ trials_of sheet.now }
     requires enough { Enough l trials (lent heads.old demands.old flows.old statuses.old entries.old scratch.old) }
     ensures { record { taken = result; held = held h.new d.new f.new q.new c.new z.new sums.new counts.new; lent = lent heads.new demands.new flows.new statuses.new entries.new scratch.new } ≡ take_turn repair_of sheet.now l (held h.old d.old f.old q.old c.old z.old sums.old counts.old) (lent heads.old demands.old flows.old statuses.old entries.old scratch.old) }
@@ -61,12 +59,15 @@ fn take_one(
     *z = held_marks::marks_out(&marks);
     let after = turn.tally;
     match turns::follows(trials, turn) {
-        Going::On(next) => keep(next, more(after), sums, counts),
-        Going::Over(ended) => {
+        ControlFlow::Continue(next) => keep(next, more(after), sums, counts),
+        ControlFlow::Break(ended) => {
             let a = conclusion::conclude(
                 sheet, l, trials, ended, after, h, d, f, q, c, heads, demands, flows, statuses,
             );
-            let t = Taken { how: 1, answer: a };
+            let t = Taken {
+                how: Told::Answered,
+                answer: a,
+            };
             keep(damping, t, sums, counts)
         }
     }
@@ -95,13 +96,13 @@ pub fn take(
     let n = *counts;
     if n[0] != 0 {
         return Taken {
-            how: 1,
+            how: Told::Answered,
             answer: held_numbers::answer_in(*sums, n),
         };
     }
     match sheet::read(sheet) {
-        Reading::Refused(r) => refused(refusals::refusal_number(r), refusals::refusal_place(r)),
-        Reading::Good(l) => {
+        Err(r) => refused(refusals::refusal_number(r), refusals::refusal_place(r)),
+        Ok(l) => {
             let options = records::options_of(sheet);
             let trials = options.trials;
             match answers::too_short(
@@ -114,8 +115,8 @@ pub fn take(
                 entries.len(),
                 scratch.len(),
             ) {
-                Found::At(place) => refused(5, place),
-                Found::Nothing => take_one(
+                Some(place) => refused(5, place),
+                None => take_one(
                     sheet, l, trials, h, d, f, q, c, z, sums, counts, heads, demands, flows,
                     statuses, entries, scratch,
                 ),

@@ -3,323 +3,191 @@
 #![tactic(auto)]
 
 use answers::Answer;
-use held::Taken;
+use held::{Taken, Told};
 use std::io;
 use std::io::{Read, Write};
 use std::process::ExitCode;
 
-fn same_floats(a: &[f64], b: &[f64]) -> bool {
-    if a.len() != b.len() {
-        return false;
+// What is held between two trials.
+#[derive(Clone, Copy)]
+struct Held {
+    h: [f64; 64],
+    d: [f64; 64],
+    f: [f64; 64],
+    q: [f64; 128],
+    c: [u8; 128],
+    z: [u8; 64],
+    sums: [f64; 5],
+    counts: [u64; 6],
+}
+
+// The buffers that are lent.
+#[derive(Clone, Copy)]
+struct Lent {
+    heads: [f64; 64],
+    demands: [f64; 64],
+    flows: [f64; 128],
+    statuses: [u8; 128],
+    entries: [u8; 800],
+    scratch: [f64; 4096],
+}
+
+// Floats are the same where their bit patterns are.
+fn same<const N: usize>(a: &[f64; N], b: &[f64; N]) -> bool {
+    a.iter()
+        .zip(b)
+        .all(|(x, y)| patterns::pattern(*x) == patterns::pattern(*y))
+}
+
+impl Held {
+    fn same(&self, other: &Held) -> bool {
+        same(&self.h, &other.h)
+            && same(&self.d, &other.d)
+            && same(&self.f, &other.f)
+            && same(&self.q, &other.q)
+            && self.c == other.c
+            && self.z == other.z
+            && same(&self.sums, &other.sums)
+            && self.counts == other.counts
     }
-    let mut i: usize = 0;
-    while i < a.len() {
-        if patterns::pattern(a[i]) != patterns::pattern(b[i]) {
-            return false;
-        }
-        i += 1;
+}
+
+impl Lent {
+    fn same(&self, other: &Lent) -> bool {
+        same(&self.heads, &other.heads)
+            && same(&self.demands, &other.demands)
+            && same(&self.flows, &other.flows)
+            && self.statuses == other.statuses
+            && self.entries == other.entries
+            && same(&self.scratch, &other.scratch)
     }
-    true
-}
-
-fn same_bytes(a: &[u8], b: &[u8]) -> bool {
-    if a.len() != b.len() {
-        return false;
-    }
-    let mut i: usize = 0;
-    while i < a.len() {
-        if a[i] != b[i] {
-            return false;
-        }
-        i += 1;
-    }
-    true
-}
-
-fn same_nodes(a: &[f64; 64], b: &[f64; 64]) -> bool {
-    same_floats(a, b)
-}
-
-fn same_links(a: &[f64; 128], b: &[f64; 128]) -> bool {
-    same_floats(a, b)
-}
-
-fn same_sums(a: &[f64; 5], b: &[f64; 5]) -> bool {
-    same_floats(a, b)
-}
-
-fn same_scratch(a: &[f64; 4096], b: &[f64; 4096]) -> bool {
-    same_floats(a, b)
-}
-
-fn same_codes(a: &[u8; 128], b: &[u8; 128]) -> bool {
-    same_bytes(a, b)
-}
-
-fn same_marks(a: &[u8; 64], b: &[u8; 64]) -> bool {
-    same_bytes(a, b)
-}
-
-fn same_record(a: &[u8; 800], b: &[u8; 800]) -> bool {
-    same_bytes(a, b)
-}
-
-fn same_counts(a: [u64; 6], b: [u64; 6]) -> bool {
-    (a[0] == b[0])
-        & (a[1] == b[1])
-        & (a[2] == b[2])
-        & (a[3] == b[3])
-        & (a[4] == b[4])
-        & (a[5] == b[5])
 }
 
 fn same_answer(a: Answer, b: Answer) -> bool {
-    (a.number == b.number)
-        & (a.place == b.place)
-        & (a.trials == b.trials)
-        & (a.freed == b.freed)
-        & (a.grounded == b.grounded)
-        & same_floats(
+    [a.number, a.place, a.trials, a.freed, a.grounded]
+        == [b.number, b.place, b.trials, b.freed, b.grounded]
+        && same(
             &[a.demand, a.supply, a.error],
             &[b.demand, b.supply, b.error],
         )
 }
 
+fn start(sheet: &[u8], held: &mut Held) -> Taken {
+    held_start::start(
+        sheet,
+        &mut held.h,
+        &mut held.d,
+        &mut held.f,
+        &mut held.q,
+        &mut held.c,
+        &mut held.z,
+        &mut held.sums,
+        &mut held.counts,
+    )
+}
+
+fn take(sheet: &[u8], held: &mut Held, lent: &mut Lent) -> Taken {
+    stepping::take(
+        sheet,
+        &mut held.h,
+        &mut held.d,
+        &mut held.f,
+        &mut held.q,
+        &mut held.c,
+        &mut held.z,
+        &mut held.sums,
+        &mut held.counts,
+        &mut lent.heads,
+        &mut lent.demands,
+        &mut lent.flows,
+        &mut lent.statuses,
+        &mut lent.entries,
+        &mut lent.scratch,
+    )
+}
+
 // Trials until one tells something else than that more are to be taken.
-fn until_told(
-    sheet: &[u8],
-    first: Taken,
-    h: &mut [f64; 64],
-    d: &mut [f64; 64],
-    f: &mut [f64; 64],
-    q: &mut [f64; 128],
-    c: &mut [u8; 128],
-    z: &mut [u8; 64],
-    sums: &mut [f64; 5],
-    counts: &mut [u64; 6],
-    heads: &mut [f64; 64],
-    demands: &mut [f64; 64],
-    flows: &mut [f64; 128],
-    statuses: &mut [u8; 128],
-    entries: &mut [u8; 800],
-    scratch: &mut [f64; 4096],
-) -> Taken {
-    let mut t = first;
-    let mut left: u32 = 1000;
-    while left > 0 {
-        if t.how != 0 {
-            return t;
+fn until_told(sheet: &[u8], held: &mut Held, lent: &mut Lent) -> Taken {
+    let mut told = start(sheet, held);
+    for _ in 0..1000 {
+        if told.how != Told::More {
+            break;
         }
-        left -= 1;
-        t = stepping::take(
-            sheet, h, d, f, q, c, z, sums, counts, heads, demands, flows, statuses, entries,
-            scratch,
-        );
+        told = take(sheet, held, lent);
     }
-    t
+    told
 }
 
-// Whether one trial more tells the same and leaves the state as it was.
-fn state_stays(
-    sheet: &[u8],
-    told: Taken,
-    h: &mut [f64; 64],
-    d: &mut [f64; 64],
-    f: &mut [f64; 64],
-    q: &mut [f64; 128],
-    c: &mut [u8; 128],
-    z: &mut [u8; 64],
-    sums: &mut [f64; 5],
-    counts: &mut [u64; 6],
-    heads: &mut [f64; 64],
-    demands: &mut [f64; 64],
-    flows: &mut [f64; 128],
-    statuses: &mut [u8; 128],
-    entries: &mut [u8; 800],
-    scratch: &mut [f64; 4096],
-) -> bool {
-    let h0 = *h;
-    let d0 = *d;
-    let f0 = *f;
-    let q0 = *q;
-    let c0 = *c;
-    let z0 = *z;
-    let sums0 = *sums;
-    let counts0 = *counts;
-    let t = stepping::take(
-        sheet, h, d, f, q, c, z, sums, counts, heads, demands, flows, statuses, entries, scratch,
-    );
-    (t.how == told.how)
-        & same_answer(t.answer, told.answer)
-        & same_nodes(&h0, h)
-        & same_nodes(&d0, d)
-        & same_nodes(&f0, f)
-        & same_links(&q0, q)
-        & same_codes(&c0, c)
-        & same_marks(&z0, z)
-        & same_sums(&sums0, sums)
-        & same_counts(counts0, *counts)
-}
-
-// The same, and leaves the buffers as they were.
-fn all_stays(
-    sheet: &[u8],
-    told: Taken,
-    h: &mut [f64; 64],
-    d: &mut [f64; 64],
-    f: &mut [f64; 64],
-    q: &mut [f64; 128],
-    c: &mut [u8; 128],
-    z: &mut [u8; 64],
-    sums: &mut [f64; 5],
-    counts: &mut [u64; 6],
-    heads: &mut [f64; 64],
-    demands: &mut [f64; 64],
-    flows: &mut [f64; 128],
-    statuses: &mut [u8; 128],
-    entries: &mut [u8; 800],
-    scratch: &mut [f64; 4096],
-) -> bool {
-    let heads0 = *heads;
-    let demands0 = *demands;
-    let flows0 = *flows;
-    let statuses0 = *statuses;
-    let entries0 = *entries;
-    let scratch0 = *scratch;
-    let stays = state_stays(
-        sheet, told, h, d, f, q, c, z, sums, counts, heads, demands, flows, statuses, entries,
-        scratch,
-    );
-    stays
-        & same_nodes(&heads0, heads)
-        & same_nodes(&demands0, demands)
-        & same_links(&flows0, flows)
-        & same_codes(&statuses0, statuses)
-        & same_record(&entries0, entries)
-        & same_scratch(&scratch0, scratch)
+// Whether one trial more tells the same and leaves all as it was.
+fn stays(sheet: &[u8], told: Taken, held: &mut Held, lent: &mut Lent) -> bool {
+    let held_before = *held;
+    let lent_before = *lent;
+    let again = take(sheet, held, lent);
+    again.how == told.how
+        && same_answer(again.answer, told.answer)
+        && held.same(&held_before)
+        && lent.same(&lent_before)
 }
 
 // The listing of an answer and of what was lent after it.
-fn list<W: Write>(
-    writer: &mut W,
-    sheet: &[u8],
-    a: Answer,
-    heads: &[f64; 64],
-    demands: &[f64; 64],
-    flows: &[f64; 128],
-    statuses: &[u8; 128],
-    entries: &[u8; 800],
-) -> io::Result<()> {
+fn list<W: Write>(writer: &mut W, sheet: &[u8], a: Answer, lent: &Lent) -> io::Result<()> {
     if 200 < a.trials {
         return standard::put(writer, b"X\n");
     }
     let mut out = [0u8; 65536];
-    let n = listing_text::tell(sheet, a, heads, demands, flows, statuses, entries, &mut out);
+    let n = listing_text::tell(
+        sheet,
+        a,
+        &lent.heads,
+        &lent.demands,
+        &lent.flows,
+        &lent.statuses,
+        &lent.entries,
+        &mut out,
+    );
     standard::put_item(writer, &mut out, n)
 }
 
 fn show<W: Write>(writer: &mut W, sheet: &[u8]) -> io::Result<()> {
-    let mut h = [0.0f64; 64];
-    let mut d = [0.0f64; 64];
-    let mut f = [0.0f64; 64];
-    let mut q = [0.0f64; 128];
-    let mut c = [0u8; 128];
-    let mut z = [0u8; 64];
-    let mut sums = [0.0f64; 5];
-    let mut counts = [0u64; 6];
-    let mut heads = [0.0f64; 64];
-    let mut demands = [0.0f64; 64];
-    let mut flows = [0.0f64; 128];
-    let mut statuses = [0u8; 128];
-    let mut entries = [0u8; 800];
-    let mut scratch = [0.0f64; 4096];
-    let first = held_start::start(
-        sheet,
-        &mut h,
-        &mut d,
-        &mut f,
-        &mut q,
-        &mut c,
-        &mut z,
-        &mut sums,
-        &mut counts,
-    );
-    let told = until_told(
-        sheet,
-        first,
-        &mut h,
-        &mut d,
-        &mut f,
-        &mut q,
-        &mut c,
-        &mut z,
-        &mut sums,
-        &mut counts,
-        &mut heads,
-        &mut demands,
-        &mut flows,
-        &mut statuses,
-        &mut entries,
-        &mut scratch,
-    );
-    let stays = all_stays(
-        sheet,
-        told,
-        &mut h,
-        &mut d,
-        &mut f,
-        &mut q,
-        &mut c,
-        &mut z,
-        &mut sums,
-        &mut counts,
-        &mut heads,
-        &mut demands,
-        &mut flows,
-        &mut statuses,
-        &mut entries,
-        &mut scratch,
-    );
-    if !stays {
+    let mut held = Held {
+        h: [0.0; 64],
+        d: [0.0; 64],
+        f: [0.0; 64],
+        q: [0.0; 128],
+        c: [0; 128],
+        z: [0; 64],
+        sums: [0.0; 5],
+        counts: [0; 6],
+    };
+    let mut lent = Lent {
+        heads: [0.0; 64],
+        demands: [0.0; 64],
+        flows: [0.0; 128],
+        statuses: [0; 128],
+        entries: [0; 800],
+        scratch: [0.0; 4096],
+    };
+    let told = until_told(sheet, &mut held, &mut lent);
+    if !stays(sheet, told, &mut held, &mut lent) {
         standard::put(writer, b"X\n")?;
     }
-    list(
-        writer,
-        sheet,
-        told.answer,
-        &heads,
-        &demands,
-        &flows,
-        &statuses,
-        &entries,
-    )
+    list(writer, sheet, told.answer, &lent)
 }
 
 // One sheet, or false where there is none.
 fn step<R: Read, W: Write>(reader: &mut R, writer: &mut W) -> io::Result<bool> {
     let mut head = [0u8; 4];
     let mut buffer = [0u8; 65536];
-    let next = standard::next_sheet(reader, writer, &mut head, &mut buffer)?;
-    if next.none {
+    let Some(size) = standard::next_sheet(reader, writer, &mut head, &mut buffer)? else {
         return Ok(false);
-    }
-    let size = next.size;
+    };
     show(writer, &buffer[..size])?;
     Ok(true)
 }
 
-fn run(rt: &HostRuntime) -> io::Result<()> {
+fn main(rt: HostRuntime) -> ExitCode {
     let mut reader = rt.stdin();
     let mut writer = rt.stdout();
-    for _ in 0..u64::MAX {
-        if !step(&mut reader, &mut writer)? {
-            return Ok(());
-        }
-    }
-    Ok(())
-}
-
-fn main(rt: HostRuntime) -> ExitCode {
-    let done = run(&rt);
+    let done = standard::take_steps(u64::MAX, || step(&mut reader, &mut writer));
     standard::ended(&rt, done)
 }

@@ -9,20 +9,14 @@ use borrow.Author.Tests.{le-ltb}
 use lib.Dec.{eqb}
 use lib.ListN.{length, get_or, set}
 use lib.Seq.{get_or-set_other}
-use Rattle.sheet.specs.Read.{read_of}
-use Rattle.found.specs.declared.Found.{Found}
-use Rattle.found.specs.declared.Found.TheVariants.{At, Nothing}
-use Rattle.sheet.specs.declared.reading.Reading.{Reading}
-use Rattle.sheet.specs.declared.reading.Reading.TheVariants.{Good, Refused}
+use Rattle.sheet.specs.Read.{read_of, Reading}
 use Rattle.layout.specs.declared.places.Layout.{Layout}
 use Rattle.damping.specs.declared.steps.Damping.{Damping}
 use Rattle.state.specs.State.{State}
 use Rattle.trial.specs.Trial.{Repair, trial_with}
-use Rattle.entries.specs.Entries.{counted}
+use Rattle.entries.specs.Entries.{counted, Going}
 use Rattle.entries.specs.declared.Ended.{Ended}
 use Rattle.entries.specs.declared.Ended.TheVariants.{Balanced, Failed, Strayed, Limit}
-use Rattle.entries.specs.declared.Going.{Going}
-use Rattle.entries.specs.declared.Going.TheVariants.{On, Over}
 use Rattle.entries.specs.declared.Tally.{Tally}
 use Rattle.marks.specs.Marks.{mark_of, put_of}
 use Rattle.marks.specs.declared.Mark.{Mark}
@@ -31,12 +25,16 @@ use Rattle.answers.specs.Answers.{Lent, Enough, too_short, failed_of}
 use Rattle.answers.specs.declared.Answer.{Answer}
 use Rattle.conclusion.specs.Conclusion.{told, unsolved, delivered}
 use Rattle.solver.specs.Solve.{trials_of}
-use Rattle.held.specs.Held.{Held, state_in, damping_in, tally_in, answer_in, sums_of, counts_of, held_of, more, answered, refusal}
+use Rattle.held.specs.Held.{told_number, Held, state_in, damping_in, tally_in, answer_in, sums_of, counts_of, held_of, more, answered, refusal}
+use Rattle.held.specs.declared.Told.{Told}
+use Rattle.held.specs.declared.Told.TheVariants.{More, Answered}
 use Rattle.held.specs.declared.Taken.{Taken}
 use Rattle.held.proofs.Laws.{marks_back}
 use Rattle.turns.specs.Turns.{due, follows, next_turn}
 use Rattle.stepping.specs.Taking.{Took, unchanged, over, after_turn, take_turn, take_lent, take_read, take_with}
 use Rattle.stepwise.specs.Stepwise.{Adds, EachTrial, Repeats, Refuses, Short}
+use Rattle.std.specs.Prelude.{Err, None, Ok, Option, Some}
+use Rattle.std.proofs.Common.{Break, Continue}
 
 -- ---- what is held comes back
 
@@ -48,7 +46,7 @@ pub answer_back : (d : Damping) (a : Answer) → answer_in (sums_of d a) (counts
 unfolding answer_in sums_of counts_of
 answer_back d a = refl
 
-pub state_back : (t : State) (d : Damping) (how : ℕ) (a : Answer) → state_in (held_of t d (record { how = how; answer = a })) ≡ t
+pub state_back : (t : State) (d : Damping) (how : Told) (a : Answer) → state_in (held_of t d (record { how = how; answer = a })) ≡ t
 unfolding state_in held_of
 state_back t d how a = rw (marks_back t.grounded)
 
@@ -56,7 +54,7 @@ state_back t d how a = rw (marks_back t.grounded)
 abbrev tallied_in : Answer → Tally
 tallied_in a = record { trials = a.trials; freed = a.freed; grounded = a.grounded }
 
-pub tally_back : (how : ℕ) (a : Answer) → tally_in (counts_of (record { how = how; answer = a })) ≡ tallied_in a
+pub tally_back : (how : Told) (a : Answer) → tally_in (counts_of (record { how = how; answer = a })) ≡ tallied_in a
 unfolding tally_in counts_of
 tally_back how a = refl
 
@@ -77,18 +75,18 @@ told_bytes s l trials b t tally bytes Limit = refl
 -- ---- a trial is taken
 
 -- what a call finds too short, and the turn that it takes
-abbrev short_of : List ℕ → Layout → Lent → Found
+abbrev short_of : List ℕ → Layout → Lent → Option ℕ
 short_of s l b = too_short l (trials_of s) (length b.heads) (length b.demands) (length b.flows) (length b.statuses) (length b.entries) (length b.scratch)
 
 abbrev next_of : Repair → List ℕ → Layout → Held → Lent → Turned
 next_of repair s l h b = next_turn repair s l (trials_of s) (damping_in h.sums) (tally_in h.counts) b.entries (state_in h)
 
 pub enough_so : (l : Layout) (trials : ℕ) (b : Lent) → Enough l trials b
-    → too_short l trials (length b.heads) (length b.demands) (length b.flows) (length b.statuses) (length b.entries) (length b.scratch) ≡ Nothing
+    → too_short l trials (length b.heads) (length b.demands) (length b.flows) (length b.statuses) (length b.entries) (length b.scratch) ≡ None
 unfolding too_short
 enough_so l trials b w = rw (le-ltb _ _ w.heads, le-ltb _ _ w.demands, le-ltb _ _ w.flows, le-ltb _ _ w.statuses, le-ltb _ _ w.entries, le-ltb _ _ w.scratch)
 
-module _ (repair : Repair) (s : List ℕ) (l : Layout) (h : Held) (b : Lent) (good : read_of s ≡ Good l) (enough : Enough l (trials_of s) b) (first : over h ≡ false) where
+module _ (repair : Repair) (s : List ℕ) (l : Layout) (h : Held) (b : Lent) (good : read_of s ≡ Ok l) (enough : Enough l (trials_of s) b) (first : over h ≡ false) where
   -- the turn that a call takes
   abbrev pub turned : Turned
   turned = turn_of repair s l (damping_in h.sums) (tally_in h.counts) b.entries (state_in h)
@@ -100,27 +98,27 @@ module _ (repair : Repair) (s : List ℕ) (l : Layout) (h : Held) (b : Lent) (go
 
 after_entries : (s : List ℕ) (l : Layout) (trials : ℕ) (d : Damping) (b : Lent) (u : Turned) (g : Going) → (after_turn s l trials d b u g).lent.entries ≡ u.bytes
 unfolding after_turn
-after_entries s l trials d b u (On next) = refl
-after_entries s l trials d b u (Over z) = told_bytes s l trials b u.state u.turn.tally u.bytes z
+after_entries s l trials d b u (Continue next) = refl
+after_entries s l trials d b u (Break z) = told_bytes s l trials b u.state u.turn.tally u.bytes z
 
 after_state : (s : List ℕ) (l : Layout) (trials : ℕ) (d : Damping) (b : Lent) (u : Turned) (g : Going) → state_in (after_turn s l trials d b u g).held ≡ u.state
 unfolding after_turn
-after_state s l trials d b u (On next) = state_back _ _ _ _
-after_state s l trials d b u (Over z) = state_back _ _ _ _
+after_state s l trials d b u (Continue next) = state_back _ _ _ _
+after_state s l trials d b u (Break z) = state_back _ _ _ _
 
 after_counts : (s : List ℕ) (l : Layout) (trials : ℕ) (d : Damping) (b : Lent) (u : Turned) (g : Going) → tally_in (after_turn s l trials d b u g).held.counts ≡ u.turn.tally
 unfolding after_turn held_of failed_of
-after_counts s l trials d b u (On next) = tally_back 0 (failed_of 0 0 u.turn.tally)
-after_counts s l trials d b u (Over z) = tally_back 1 (told s l trials b u.state u.turn.tally u.bytes z).answer ∙ told_tally s l trials b u.state u.turn.tally u.bytes z
+after_counts s l trials d b u (Continue next) = tally_back More (failed_of 0 0 u.turn.tally)
+after_counts s l trials d b u (Break z) = tally_back Answered (told s l trials b u.state u.turn.tally u.bytes z).answer ∙ told_tally s l trials b u.state u.turn.tally u.bytes z
 
 others_stay : (r : List ℕ) (i : ℕ) (m : Mark) (k : ℕ) → ((n : ℕ) → n < 4 → k ≡ 4 * i + n → ⊥) → get_or (put_of r i m) k 0 ≡ get_or r k 0
 unfolding put_of
 others_stay r i m k away =
-    let r₁ = set r (4 * i) m.0 in
-    let r₂ = set r₁ (4 * i + 1) m.1 in
-    let r₃ = set r₂ (4 * i + 2) (m.2 % 256) in
-    get_or-set_other r₃ (4 * i + 3) k (m.2 / 256 % 256) 0 (away 3 (omega arith)) ∙ get_or-set_other r₂ (4 * i + 2) k (m.2 % 256) 0 (away 2 (omega arith))
-    ∙ get_or-set_other r₁ (4 * i + 1) k m.1 0 (away 1 (omega arith)) ∙ get_or-set_other r (4 * i) k m.0 0 (λ z. away 0 (omega arith) (omega arith))
+    let r₁ = set r (4 * i) m.first in
+    let r₂ = set r₁ (4 * i + 1) m.second in
+    let r₃ = set r₂ (4 * i + 2) (m.number % 256) in
+    get_or-set_other r₃ (4 * i + 3) k (m.number / 256 % 256) 0 (away 3 (omega arith)) ∙ get_or-set_other r₂ (4 * i + 2) k (m.number % 256) 0 (away 2 (omega arith))
+    ∙ get_or-set_other r₁ (4 * i + 1) k m.second 0 (away 1 (omega arith)) ∙ get_or-set_other r (4 * i) k m.first 0 (λ z. away 0 (omega arith) (omega arith))
 
 pub each_trial : EachTrial
 unfolding turn_of
@@ -148,23 +146,23 @@ record Kept (o : Took) : Type 0 where
 never : {A : Type 0} (m n : ℕ) → m < n → m ≡ n → A
 never m n l e = absurd (omega arith)
 
-kept_turn : (s : List ℕ) (l : Layout) (trials : ℕ) (d : Damping) (b : Lent) (u : Turned) (g : Going) → (after_turn s l trials d b u g).taken.how ≡ 1 → Kept (after_turn s l trials d b u g)
+kept_turn : (s : List ℕ) (l : Layout) (trials : ℕ) (d : Damping) (b : Lent) (u : Turned) (g : Going) → told_number (after_turn s l trials d b u g).taken.how ≡ 1 → Kept (after_turn s l trials d b u g)
 unfolding after_turn over held_of counts_of
-kept_turn s l trials d b u (On next) e = never 0 1 (omega arith) e
-kept_turn s l trials d b u (Over z) e = record { over = refl; same = ap answered (answer_back d (told s l trials b u.state u.turn.tally u.bytes z).answer) }
+kept_turn s l trials d b u (Continue next) e = never 0 1 (omega arith) e
+kept_turn s l trials d b u (Break z) e = record { over = refl; same = ap answered (answer_back d (told s l trials b u.state u.turn.tally u.bytes z).answer) }
 
 module _ (repair : Repair) (s : List ℕ) (h : Held) (b : Lent) where
-  kept_lent : (l : Layout) (f : Found) → (take_lent repair s l h b f).taken.how ≡ 1 → Kept (take_lent repair s l h b f)
+  kept_lent : (l : Layout) (f : Option ℕ) → told_number (take_lent repair s l h b f).taken.how ≡ 1 → Kept (take_lent repair s l h b f)
   unfolding take_lent take_turn
-  kept_lent l (At place) e = never 1 2 (omega arith) (sym e)
-  kept_lent l Nothing e = let u = next_of repair s l h b in kept_turn s l (trials_of s) (damping_in h.sums) b u (follows (trials_of s) u.turn.tally u.turn.going) e
+  kept_lent l (Some place) e = never 1 2 (omega arith) (sym e)
+  kept_lent l None e = let u = next_of repair s l h b in kept_turn s l (trials_of s) (damping_in h.sums) b u (follows (trials_of s) u.turn.tally u.turn.going) e
 
-  kept_read : (r : Reading) → (take_read repair s h b r).taken.how ≡ 1 → Kept (take_read repair s h b r)
+  kept_read : (r : Reading) → told_number (take_read repair s h b r).taken.how ≡ 1 → Kept (take_read repair s h b r)
   unfolding take_read
-  kept_read (Refused r) e = never 1 2 (omega arith) (sym e)
-  kept_read (Good l) e = kept_lent l (short_of s l b) e
+  kept_read (Err r) e = never 1 2 (omega arith) (sym e)
+  kept_read (Ok l) e = kept_lent l (short_of s l b) e
 
-  kept_take : (x : Bool) → over h ≡ x → (cond x (unchanged (answered (answer_in h.sums h.counts)) h b) (take_read repair s h b (read_of s))).taken.how ≡ 1
+  kept_take : (x : Bool) → over h ≡ x → told_number (cond x (unchanged (answered (answer_in h.sums h.counts)) h b) (take_read repair s h b (read_of s))).taken.how ≡ 1
       → Kept (cond x (unchanged (answered (answer_in h.sums h.counts)) h b) (take_read repair s h b (read_of s)))
   kept_take true p e = record { over = p; same = refl }
   kept_take false p e = kept_read (read_of s) e
@@ -172,31 +170,31 @@ module _ (repair : Repair) (s : List ℕ) (h : Held) (b : Lent) where
 pub repeats : Repeats
 unfolding take_with
 repeats repair s s' h b b' e =
-    let k = kept_take repair s h b (over h) refl e in
+    let k = kept_take repair s h b (over h) refl (ap told_number e) in
     rw k.over (ap (λ (t : Taken). unchanged t (take_with repair s h b).held b') k.same)
 
 -- ---- refusals
 
-after_turn_lem : (s : List ℕ) (l : Layout) (trials : ℕ) (d : Damping) (b : Lent) (u : Turned) (g : Going) → (after_turn s l trials d b u g).taken.how ≤ 1
+after_turn_lem : (s : List ℕ) (l : Layout) (trials : ℕ) (d : Damping) (b : Lent) (u : Turned) (g : Going) → told_number (after_turn s l trials d b u g).taken.how ≤ 1
 unfolding after_turn
-after_turn_lem s l trials d b u (On next) = omega arith
-after_turn_lem s l trials d b u (Over z) = omega arith
+after_turn_lem s l trials d b u (Continue next) = omega arith
+after_turn_lem s l trials d b u (Break z) = omega arith
 
 module _ (repair : Repair) (s : List ℕ) (h : Held) (b : Lent) where
-  refused_lent : (l : Layout) (f : Found) → (take_lent repair s l h b f).taken.how ≡ 2 → ((take_lent repair s l h b f).held ≡ h) × ((take_lent repair s l h b f).lent ≡ b)
+  refused_lent : (l : Layout) (f : Option ℕ) → told_number (take_lent repair s l h b f).taken.how ≡ 2 → ((take_lent repair s l h b f).held ≡ h) × ((take_lent repair s l h b f).lent ≡ b)
   unfolding take_lent take_turn
-  refused_lent l (At place) e = (refl, refl)
-  refused_lent l Nothing e =
+  refused_lent l (Some place) e = (refl, refl)
+  refused_lent l None e =
       let u = next_of repair s l h b in
       let m = after_turn_lem s l (trials_of s) (damping_in h.sums) b u (follows (trials_of s) u.turn.tally u.turn.going) in
       absurd (omega arith)
 
-  refused_read : (r : Reading) → (take_read repair s h b r).taken.how ≡ 2 → ((take_read repair s h b r).held ≡ h) × ((take_read repair s h b r).lent ≡ b)
+  refused_read : (r : Reading) → told_number (take_read repair s h b r).taken.how ≡ 2 → ((take_read repair s h b r).held ≡ h) × ((take_read repair s h b r).lent ≡ b)
   unfolding take_read
-  refused_read (Refused r) e = (refl, refl)
-  refused_read (Good l) e = refused_lent l (short_of s l b) e
+  refused_read (Err r) e = (refl, refl)
+  refused_read (Ok l) e = refused_lent l (short_of s l b) e
 
-  refused_take : (x : Bool) → (cond x (unchanged (answered (answer_in h.sums h.counts)) h b) (take_read repair s h b (read_of s))).taken.how ≡ 2
+  refused_take : (x : Bool) → told_number (cond x (unchanged (answered (answer_in h.sums h.counts)) h b) (take_read repair s h b (read_of s))).taken.how ≡ 2
       → ((cond x (unchanged (answered (answer_in h.sums h.counts)) h b) (take_read repair s h b (read_of s))).held ≡ h)
       × ((cond x (unchanged (answered (answer_in h.sums h.counts)) h b) (take_read repair s h b (read_of s))).lent ≡ b)
   refused_take true e = never 1 2 (omega arith) e
@@ -204,7 +202,7 @@ module _ (repair : Repair) (s : List ℕ) (h : Held) (b : Lent) where
 
 pub refuses : Refuses
 unfolding take_with
-refuses repair s h b e = refused_take repair s h b (over h) e
+refuses repair s h b e = refused_take repair s h b (over h) (ap told_number e)
 
 pub short : Short
 unfolding take_with take_read take_lent

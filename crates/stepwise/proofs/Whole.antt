@@ -15,7 +15,6 @@ use Rattle.patterns.specs.Bytes.{from_bytes}
 use Rattle.fields.specs.Fields.{base_bounds, null, all_within, options_good}
 use Rattle.fields.specs.declared.fields.Bounds.{Bounds}
 use Rattle.sheet.specs.Read.{read_of}
-use Rattle.sheet.specs.declared.reading.Reading.TheVariants.{Good}
 use Rattle.sheet.proofs.Laws.{and_left, and_right}
 use Rattle.accepted.proofs.Accepts.{accepts}
 use Rattle.layout.specs.declared.places.Layout.{Layout}
@@ -24,11 +23,9 @@ use Rattle.columns.specs.Columns.{zeros}
 use Rattle.columns.proofs.Laws.{zeros_long}
 use Rattle.state.specs.State.{State}
 use Rattle.trial.specs.Trial.{Repair, trial_with}
-use Rattle.entries.specs.Entries.{damping_start, none}
+use Rattle.entries.specs.Entries.{damping_start, none, Going}
 use Rattle.entries.specs.declared.Ended.{Ended}
 use Rattle.entries.specs.declared.Ended.TheVariants.{Balanced, Failed, Strayed, Limit}
-use Rattle.entries.specs.declared.Going.{Going}
-use Rattle.entries.specs.declared.Going.TheVariants.{On, Over}
 use Rattle.entries.specs.declared.Tally.{Tally}
 use Rattle.marks.specs.Marks.{mark_of}
 use Rattle.marks.proofs.Laws.{put_long}
@@ -38,6 +35,7 @@ use Rattle.answers.specs.Answers.{Lent, lent, Solved, Enough, failed_of}
 use Rattle.answers.specs.declared.Answer.{Answer}
 use Rattle.conclusion.specs.Conclusion.{emptied, told, unsolved, delivered}
 use Rattle.solver.specs.Solve.{trials_of, start_of, run_of, solved_with, after_short, after_read, solve_with}
+use Rattle.held.specs.declared.Told.TheVariants.{More}
 use Rattle.held.specs.Held.{Held, state_in, damping_in, tally_in, counts_of, held_of, more, answered}
 use Rattle.turns.specs.Turns.{due, follows, next_turn}
 use Rattle.turns.proofs.Laws.{Due, due_is, is_due, follow_on, follow_limit, follow_over}
@@ -45,6 +43,8 @@ use Rattle.held_start.specs.Start.{start_read, start_held}
 use Rattle.stepping.specs.Taking.{Took, unchanged, over, after_turn, take_with}
 use Rattle.stepwise.specs.Stepwise.{Went, onward, go_on, Whole}
 use Rattle.stepwise.proofs.Calls.{damping_back, state_back, tally_back, told_tally, enough_so, turned, takes}
+use Rattle.std.specs.Prelude.{Ok}
+use Rattle.std.proofs.Common.{Break, Continue}
 
 -- ---- of the sheet: at least one trial is allowed
 
@@ -56,7 +56,7 @@ some_trial b s h =
     let m = leb (pair_at s 26) b.trials in
     leb-true 1 (pair_at s 26) (and_right f g (and_left (f && g) m (and_left (f && g && m) (leb (byte_at s 28) b.unit) h)))
 
-some_trials : (s : List ℕ) (l : Layout) → read_of s ≡ Good l → 1 ≤ trials_of s
+some_trials : (s : List ℕ) (l : Layout) → read_of s ≡ Ok l → 1 ≤ trials_of s
 unfolding read_of base_bounds options_of
 some_trials s l h = some_trial base_bounds s (accepts base_bounds s l h).options
 
@@ -95,7 +95,7 @@ later_enough l trials b r e w =
 
 -- ---- the calls
 
-module _ (repair : Repair) (s : List ℕ) (l : Layout) (good : read_of s ≡ Good l) where
+module _ (repair : Repair) (s : List ℕ) (l : Layout) (good : read_of s ≡ Ok l) where
   -- what is left to run from what is held, and how its end is told
   abbrev ending : Held → Lent → Finished
   ending h b =
@@ -116,13 +116,13 @@ module _ (repair : Repair) (s : List ℕ) (l : Layout) (good : read_of s ≡ Goo
   end_of u z = record { ran = record { ended = z; tally = u.turn.tally }; bytes = u.bytes; state = u.state }
 
   last_call : (i : ℕ) (d : Damping) (b : Lent) (u : Turned) (z : Ended) (next : Held → Lent → Went) → u.turn.tally.trials ≡ i + 1
-      → Comes i b (end_of u z) (onward (after_turn s l (trials_of s) d b u (Over z)) next)
+      → Comes i b (end_of u z) (onward (after_turn s l (trials_of s) d b u (Break z)) next)
   unfolding onward after_turn
   last_call i d b u z next e = record { taken = refl; lent = refl; calls = omega arith }
 
   one_more : (i : ℕ) (d next : Damping) (b : Lent) (u : Turned) (f : Finished) (go : Held → Lent → Went) → u.turn.tally.trials ≡ i + 1
       → Comes u.turn.tally.trials (later b u.bytes) f (go (held_of u.state next (more u.turn.tally)) (later b u.bytes))
-      → Comes i b f (onward (after_turn s l (trials_of s) d b u (On next)) go)
+      → Comes i b f (onward (after_turn s l (trials_of s) d b u (Continue next)) go)
   unfolding onward after_turn
   one_more i d next b u f go e w =
       let same = told_later s l (trials_of s) b u.bytes f.state f.ran.tally f.bytes f.ran.ended in
@@ -134,7 +134,7 @@ module _ (repair : Repair) (s : List ℕ) (l : Layout) (good : read_of s ≡ Goo
 
   after_tally : (next : Damping) (u : Turned) → tally_in (after_of next u).counts ≡ u.turn.tally
   unfolding after_of held_of failed_of
-  after_tally next u = tally_back 0 (failed_of 0 0 u.turn.tally)
+  after_tally next u = tally_back More (failed_of 0 0 u.turn.tally)
 
   after_damping : (next : Damping) (u : Turned) → damping_in (after_of next u).sums ≡ next
   unfolding after_of held_of
@@ -142,7 +142,7 @@ module _ (repair : Repair) (s : List ℕ) (l : Layout) (good : read_of s ≡ Goo
 
   after_state : (next : Damping) (u : Turned) → state_in (after_of next u) ≡ u.state
   unfolding after_of
-  after_state next u = state_back u.state next 0 (failed_of 0 0 u.turn.tally)
+  after_state next u = state_back u.state next More (failed_of 0 0 u.turn.tally)
 
   after_ending : (next : Damping) (u : Turned) (b : Lent)
       → ending (after_of next u) (later b u.bytes) ≡ finish u.turn.tally.trials u.turn.tally u.bytes (run_with repair s l (trials_of s - u.turn.tally.trials) next u.state)
@@ -163,7 +163,7 @@ module _ (repair : Repair) (s : List ℕ) (l : Layout) (good : read_of s ≡ Goo
     counts_of_lem : Counts (tally_in h.counts) u.turn.tally
     counts_of_lem = turn_counts repair s l 0 (damping_in h.sums) (tally_in h.counts) b.entries (state_in h) u turn
 
-    over-call : (z : Ended) → u.turn.going ≡ Over z → Comes start b (ending h b) (next-call (follows (trials_of s) u.turn.tally u.turn.going))
+    over-call : (z : Ended) → u.turn.going ≡ Break z → Comes start b (ending h b) (next-call (follows (trials_of s) u.turn.tally u.turn.going))
     over-call z e =
         subst (λ (f : Finished). Comes start b f (next-call (follows (trials_of s) u.turn.tally u.turn.going)))
         (run_over repair s l (trials_of s) (damping_in h.sums) (tally_in h.counts) b.entries (state_in h) u z w.more turn e)
@@ -171,11 +171,11 @@ module _ (repair : Repair) (s : List ℕ) (l : Layout) (good : read_of s ≡ Goo
         (last_call start (damping_in h.sums) b u z go counts_of_lem.trials))
 
     -- the rest of the run
-    rest : (next : Damping) → u.turn.going ≡ On next
+    rest : (next : Damping) → u.turn.going ≡ Continue next
         → finish u.turn.tally.trials u.turn.tally u.bytes (run_with repair s l (trials_of s - u.turn.tally.trials) next u.state) ≡ ending h b
     rest next e = run_on repair s l (trials_of s) (damping_in h.sums) (tally_in h.counts) b.entries (state_in h) u next w.more turn e
 
-    limit-call : (next : Damping) → u.turn.going ≡ On next → trials_of s ≤ u.turn.tally.trials
+    limit-call : (next : Damping) → u.turn.going ≡ Continue next → trials_of s ≤ u.turn.tally.trials
         → Comes start b (ending h b) (next-call (follows (trials_of s) u.turn.tally u.turn.going))
     limit-call next e m =
         subst (λ (f : Finished). Comes start b f (next-call (follows (trials_of s) u.turn.tally u.turn.going)))
@@ -183,7 +183,7 @@ module _ (repair : Repair) (s : List ℕ) (l : Layout) (good : read_of s ≡ Goo
         (subst (λ (g : Going). Comes start b (end_of u Limit) (next-call g)) (follow_limit (trials_of s) u.turn.tally u.turn.going next e m)
         (last_call start (damping_in h.sums) b u Limit go counts_of_lem.trials))
 
-    more-call : (next : Damping) → u.turn.going ≡ On next → u.turn.tally.trials < trials_of s
+    more-call : (next : Damping) → u.turn.going ≡ Continue next → u.turn.tally.trials < trials_of s
         → Comes (tally_in (after_of next u).counts).trials (later b u.bytes) (ending (after_of next u) (later b u.bytes)) (go (after_of next u) (later b u.bytes))
         → Comes start b (ending h b) (next-call (follows (trials_of s) u.turn.tally u.turn.going))
     unfolding after_of
@@ -234,15 +234,15 @@ module _ (repair : Repair) (s : List ℕ) (l : Layout) (good : read_of s ≡ Goo
         let u = turn_of_lem h b in
         Comes (tally_in h.counts).trials b (ending h b) (onward (after_turn s l (trials_of s) (damping_in h.sums) b u (follows (trials_of s) u.turn.tally u.turn.going)) (go_on repair s n))
 
-    by-limit : (next : Damping) → (turn_of_lem h b).turn.going ≡ On next → (x : Bool) → ltb (turn_of_lem h b).turn.tally.trials (trials_of s) ≡ x → this-call
+    by-limit : (next : Damping) → (turn_of_lem h b).turn.going ≡ Continue next → (x : Bool) → ltb (turn_of_lem h b).turn.tally.trials (trials_of s) ≡ x → this-call
     by-limit next p true q =
         let m = ltb-true _ _ q in
         more-call h b (turn_of_lem h b) refl (due_is _ _ r.due) (go_on repair s n) next p m (ih _ _ (after_ready n h b next r m))
     by-limit next p false q = limit-call h b (turn_of_lem h b) refl (due_is _ _ r.due) (go_on repair s n) next p (ltb-false _ _ q)
 
     by-going : (g : Going) → (turn_of_lem h b).turn.going ≡ g → this-call
-    by-going (Over z) p = over-call h b (turn_of_lem h b) refl (due_is _ _ r.due) (go_on repair s n) z p
-    by-going (On next) p = by-limit next p (ltb (turn_of_lem h b).turn.tally.trials (trials_of s)) refl
+    by-going (Break z) p = over-call h b (turn_of_lem h b) refl (due_is _ _ r.due) (go_on repair s n) z p
+    by-going (Continue next) p = by-limit next p (ltb (turn_of_lem h b).turn.tally.trials (trials_of s)) refl
 
   comes : (n : ℕ) (h : Held) (b : Lent) → Ready n h b → Comes (tally_in h.counts).trials b (ending h b) (go_on repair s n h b)
   unfolding go_on
@@ -253,7 +253,7 @@ module _ (repair : Repair) (s : List ℕ) (l : Layout) (good : read_of s ≡ Goo
 
 -- ---- from the start
 
-module _ (repair : Repair) (s : List ℕ) (l : Layout) (was : Held) (b : Lent) (good : read_of s ≡ Good l) (enough : Enough l (trials_of s) b) where
+module _ (repair : Repair) (s : List ℕ) (l : Layout) (was : Held) (b : Lent) (good : read_of s ≡ Ok l) (enough : Enough l (trials_of s) b) where
   abbrev first : Held
   first = held_of (start_of s l) damping_start (more none)
 
@@ -263,7 +263,7 @@ module _ (repair : Repair) (s : List ℕ) (l : Layout) (was : Held) (b : Lent) (
 
   first_tally : tally_in first.counts ≡ none
   unfolding held_of failed_of
-  first_tally = tally_back 0 (failed_of 0 0 none)
+  first_tally = tally_back More (failed_of 0 0 none)
 
   first_damping : damping_in first.sums ≡ damping_start
   unfolding held_of
@@ -286,7 +286,7 @@ module _ (repair : Repair) (s : List ℕ) (l : Layout) (was : Held) (b : Lent) (
       let from : Tally → Damping → State → Finished = λ tally d t. finish tally.trials tally b.entries (run_with repair s l (trials_of s - tally.trials) d t) in
       let all : from none damping_start (start_of s l) ≡ run_of repair s l b.entries = rw sub-zero in
       ap (λ (x : Tally). from x (damping_in first.sums) (state_in first)) first_tally ∙ ap (λ (x : Damping). from none x (state_in first)) first_damping
-      ∙ ap (λ (x : State). from none damping_start x) (state_back (start_of s l) damping_start 0 (failed_of 0 0 none)) ∙ all
+      ∙ ap (λ (x : State). from none damping_start x) (state_back (start_of s l) damping_start More (failed_of 0 0 none)) ∙ all
 
   abbrev solved : Solved
   solved = let f = run_of repair s l b.entries in told s l (trials_of s) b f.state f.ran.tally f.bytes f.ran.ended

@@ -20,34 +20,19 @@ fn subtract_term(l: &[f64], n: usize, k: usize, x: &mut [f64])
 }
 
 // The right side at row r less the terms of the unknowns after r, ascending. Each term waits for
-// the one before, and most factors are zero: such a term would take a zero away, and is left out.
-fn less_filled(l: &[f64], x: &[f64], r: usize, n: usize) -> f64
-    requires l_len { (length l.now ≡ 4096) × ((r < n) × ((n ≤ 64) × (n ≤ length x.now))) }
-    requires firm { Firm (get_or x.now r nan) × ((k : ℕ) → r < k → k < n → T (finite (get_or x.now k nan))) }
-    ensures { result ≡ after l.now x.now r (n - suc r) }
-{
-    let mut s = x[r];
-    for k in r + 1..n {
-        let f = l[64 * r + k];
-        if f != 0.0 {
-            s = s - f * x[k];
-        }
-    }
-    s
-}
-
-// The same, with every term where one that is left out could change something.
+// the one before, and most factors are zero: where that changes nothing such a term, which would
+// take a zero away, is left out.
 fn less_after(l: &[f64], x: &[f64], r: usize, n: usize, skip: bool) -> f64
     requires l_len { (length l.now ≡ 4096) × ((r < n) × ((n ≤ 64) × (n ≤ length x.now))) }
     requires firm { skip ≡ true → Firm (get_or x.now r nan) × ((k : ℕ) → r < k → k < n → T (finite (get_or x.now k nan))) }
     ensures { result ≡ after l.now x.now r (n - suc r) }
 {
-    if skip {
-        return less_filled(l, x, r, n);
-    }
     let mut s = x[r];
     for k in r + 1..n {
-        s = s - l[64 * r + k] * x[k];
+        let f = l[64 * r + k];
+        if !skip || f != 0.0 {
+            s = s - f * x[k];
+        }
     }
     s
 }
@@ -61,15 +46,13 @@ pub fn substitute(l: &[f64], n: usize, x: &mut [f64])
         x[k] = x[k] / l[64 * k + k];
         subtract_term(l, n, k, x);
     }
-    let mut r = n;
     // the unknowns so far that are not finite
     let mut found: u64 = 0;
-    while 0 < r {
-        r -= 1;
+    for r in (0..n).rev() {
         let kept = found + minus_zero(x[r]);
         let skip = kept == 0;
         let y = less_after(l, x, r, n, skip) / l[64 * r + r];
         x[r] = y;
-        found = found + endless(y);
+        found += endless(y);
     }
 }

@@ -4,5 +4,5 @@
 mod tables;
 mod tables_871;
 
-pub use tables::{entry_a, entry_b, power_table};
-pub use tables_871::power_table_871;
+pub use tables::{PowerTable, entry_a, entry_b, power_table};
+pub use tables_871::{PowerTable871, power_table_871};

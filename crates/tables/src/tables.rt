@@ -1163,10 +1163,17 @@ const TABLE: [u64; 1153] = [
     0x3c86314762af55f4,
 ];
 
-pub fn power_table() -> [u64; 1153]
-    ensures { result ≡ power_table }
+// The table of x^0.852: whoever holds one holds its 1,153 numbers and no others.
+#[derive(Clone, Copy)]
+pub struct PowerTable {
+    pub entries: [u64; 1153],
+    ghost right: { entries ≡ power_table },
+}
+
+pub fn power_table() -> PowerTable
+    ensures { result.entries ≡ power_table }
 {
-    TABLE
+    PowerTable { entries: TABLE }
 }
 
 // Entry i of A in a lent table, of whichever exponent.

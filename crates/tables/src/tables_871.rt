@@ -1160,8 +1160,15 @@ const TABLE_871: [u64; 1153] = [
     0x3c731b4adba928ed,
 ];
 
-pub fn power_table_871() -> [u64; 1153]
-    ensures { result ≡ power_table871 }
+// The table of x^0.871.
+#[derive(Clone, Copy)]
+pub struct PowerTable871 {
+    pub entries: [u64; 1153],
+    ghost right: { entries ≡ power_table871 },
+}
+
+pub fn power_table_871() -> PowerTable871
+    ensures { result.entries ≡ power_table871 }
 {
-    TABLE_871
+    PowerTable871 { entries: TABLE_871 }
 }

@@ -2,20 +2,16 @@
 use mathlib.Core.Path.{◌≡◌, refl, sym, ◌∙◌}
 use mathlib.Core.Bool.{Bool, true, false, not, ◌&&◌, ◌||◌}
 use mathlib.Core.List.{List}
-use Prim.Native.Nat.{ℕ, zero, ◌+◌, ◌≤◌, ◌<◌}
+use Prim.Native.Nat.{ℕ, ◌+◌, ◌≤◌, ◌<◌}
 use native.Mathlib.Numerals.{add-one}
 use native.Mathlib.Omega.{arith}
-use borrow.Author.Tests.{eq-eqb, ne_eqb}
-use lib.Dec.{eqb}
 use lib.ListN.{length, get_or, set}
 use lib.Ieee.{Float, nan, lt, le}
 use Rattle.layout.specs.declared.places.Layout.{Layout}
 use Rattle.nodes.specs.Nodes.{node_of, tank_at}
-use Rattle.links.specs.Links.{link_start, link_end}
 use Rattle.records.specs.declared.records.Node.{Node}
 use Rattle.constants.specs.Arithmetic.{plus}
 use Rattle.constants.specs.Constants as constant
-use Rattle.columns.specs.Columns.{add_to, take_from}
 use Rattle.tanks.specs.Tanks.{Tanks, tanks, full_at, empty_at, shut, links_to, links_from, tank_update, tank_updates, tank_links_of}
 
 -- ---- one node

@@ -1,5 +1,5 @@
 -- hydraulicsolver.rs `update_tank_links`: a full tank shuts the links that fill it, an empty one those that drain it; a tank's demand is its net inflow. Definitions only.
-use Rattle.std.specs.Prelude.{ℕ, zero, suc, ◌+◌, Bool, cond, not, ◌&&◌, ◌||◌, List, eqb, get_or, set, Float}
+use Rattle.std.specs.Prelude.{ℕ, zero, suc, Bool, cond, not, ◌&&◌, ◌||◌, List, eqb, get_or, set, Float}
 use Rattle.std.specs.Float.{nan}
 use Rattle.std.specs.Float.Ieee.{lt, le}
 use Rattle.layout.specs.declared.places.Layout.{Layout}

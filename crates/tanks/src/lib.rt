@@ -6,12 +6,11 @@ ghost use Rattle.layout.specs.Places.{Laid};
 ghost use Rattle.links_at.specs.LinksAt.{LinksAt};
 ghost use Rattle.tanks.specs.Tanks.{tanks, full_at, empty_at, shut, links_to, links_from, tank_update, tank_updates, tank_links_of};
 
+use codes::Status;
 use columns::{add_to, take_from};
 use layout::Layout;
 use links::{link_end, link_start};
 use nodes::{is_tank, node};
-
-const TEMP_CLOSED: u8 = 3;
 
 // At this head the tank is full, and does not spill.
 fn is_full(sheet: &[u8], l: Layout, i: usize, head: f64) -> bool
@@ -38,7 +37,7 @@ fn shut_link(above: bool, below: bool, q: f64, j: usize, statuses: &mut [u8])
     ensures { statuses.new ≡ shut above below q j statuses.old }
 {
     if (above & (q > 0.0)) | (below & (q < 0.0)) {
-        statuses[j] = TEMP_CLOSED;
+        statuses[j] = u8::from(Status::TempClosed);
     }
 }
 

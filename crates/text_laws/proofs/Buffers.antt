@@ -5,14 +5,16 @@ use mathlib.Core.Bool.{Bool, true, false, cond, ◌||◌}
 use mathlib.Core.List.{List}
 use native.Mathlib.Nat.{zero-add}
 use native.Mathlib.Omega.{arith}
-use lib.Dec.{eqb, ltb}
+use lib.Dec.{ltb}
+use Rattle.std.specs.Prelude.{⊤, Result, Ok, Err}
 use lib.ListN.{length, drop}
 use lib.Seq.{drop-append_seam}
 use Rattle.words.specs.Buffer.{placed}
 use Rattle.words.proofs.Laws.{placed_parts}
-use Rattle.known.specs.Known.{Known, Surveyed, survey_of}
+use Rattle.known.specs.Known.{Known, survey_of}
+use Rattle.known.specs.declared.Refused.{Refused}
 use Rattle.text_sheet.specs.Sheet.{sheet_of, names_of}
-use Rattle.from_text.specs.FromText.{FromText, refused, put_of, after_survey, from_text}
+use Rattle.from_text.specs.FromText.{refused, put_of, after_survey, from_text}
 use Rattle.from_text.proofs.Laws.{room_for}
 use Rattle.text_laws.specs.TextLaws.{Stays, Lent}
 
@@ -44,14 +46,11 @@ put_stays x sheet names = go (ltb (length sheet) (length (sheet_of x)) || ltb (l
           names_behind = λ z. behind names (names_of x) r.1;
         }
 
-survey_stays : (v : Surveyed) (sheet names : List ℕ) → Stays sheet names (after_survey v sheet names)
+survey_stays : (v : Result ⊤ Refused) (x : Known) (sheet names : List ℕ) → Stays sheet names (after_survey v x sheet names)
 unfolding after_survey
-survey_stays v sheet names = go (eqb v.number 0)
-  where
-    go : (b : Bool) → Stays sheet names (cond b (put_of v.known sheet names) (record { taken = refused v.number v.line; sheet = sheet; names = names }))
-    go true = put_stays v.known sheet names
-    go false = record { refused = λ z. (refl, refl); sheet_behind = λ z. refl; names_behind = λ z. refl }
+survey_stays (Ok d) x sheet names = put_stays x sheet names
+survey_stays (Err r) x sheet names = record { refused = λ z. (refl, refl); sheet_behind = λ z. refl; names_behind = λ z. refl }
 
 pub lent : Lent
 unfolding from_text
-lent = record { stays = λ t sheet names. survey_stays (survey_of t) sheet names }
+lent = record { stays = λ t sheet names. survey_stays (survey_of t).told (survey_of t).known sheet names }

@@ -2,36 +2,19 @@
 // else `S nodes links bytes`, the sheet's bytes, and the names, one a line.
 #![tactic(auto)]
 
-ghost use Rattle.std.specs.Prelude.{◌≤◌};
-
 use from_text::Taken;
 use std::io;
 use std::io::Write;
 
-fn tell_refusal<W: Write>(writer: &mut W, t: Taken) -> io::Result<bool> {
-    let mut line = [0u8; 128];
-    let n = text::answer_line(t.number, t.place, 0, 0, 0, &mut line, 0);
-    if n <= 128 {
-        standard::put(writer, &line[..n])?;
-        return Ok(true);
-    }
-    Ok(false)
-}
-
 fn tell_sheet<W: Write>(writer: &mut W, t: Taken, made: &[u8], names: &[u8]) -> io::Result<bool> {
+    let (Some(made), Some(names)) = (made.get(..t.bytes), names.get(..t.names)) else {
+        return Ok(false);
+    };
     let mut line = [0u8; 128];
     let n = sheet_line::sheet_line(t.nodes, t.links, t.bytes, &mut line, 0);
-    let bytes = t.bytes;
-    let size = t.names;
-    if made.len() < bytes {
-        return Ok(false);
-    }
-    if names.len() < size {
-        return Ok(false);
-    }
     standard::put(writer, &line[..n])?;
-    standard::put(writer, &made[..bytes])?;
-    standard::put(writer, &names[..size])?;
+    standard::put(writer, made)?;
+    standard::put(writer, names)?;
     Ok(true)
 }
 
@@ -42,7 +25,8 @@ pub fn show<W: Write>(writer: &mut W, text: &[u8]) -> io::Result<bool> {
     let mut names = [0u8; 49152];
     let t = from_text::from_text(text, &mut sheet, &mut names);
     if t.number != 0 {
-        return tell_refusal(writer, t);
+        standard::put_refusal(writer, t.number, t.place)?;
+        return Ok(true);
     }
     tell_sheet(writer, t, &sheet, &names)
 }

@@ -1,8 +1,10 @@
 -- A node's record from the words of its line. Definitions only.
-use Rattle.std.specs.Prelude.{ℕ, false, cond, List, eqb, Float}
+use Rattle.std.specs.Prelude.{ℕ, false, List, Float}
 use Rattle.spelled.specs.Texts.{bytes_of}
 use Rattle.line_fields.specs.Fields.{value_or_zero, keyword_at}
 use Rattle.codes.specs.declared.NodeKind.TheVariants.{Junction, Reservoir, Tank}
+use Rattle.named_lines.specs.declared.Kind.{Kind}
+use Rattle.named_lines.specs.declared.Kind.TheVariants as kind
 use Rattle.records.specs.declared.records.Node.{Node}
 use Rattle.constants.specs.Arithmetic.{plus, times}
 use Rattle.constants.specs.Constants.{zero, one}
@@ -56,7 +58,11 @@ tank_record u ws =
       overflow = keyword_at ws 8 (bytes_of "YES");
     }
 
--- kind 0 junction, 1 reservoir, else tank
-unfoldable pub node_record_of : ℕ → Units → Float → List (List ℕ) → Node
-node_record_of kind u multiplier ws =
-    cond (eqb kind 0) (junction_record u multiplier ws) (cond (eqb kind 1) (reservoir_record u ws) (tank_record u ws))
+-- what is no junction and no reservoir is a tank
+unfoldable pub node_record_of : Kind → Units → Float → List (List ℕ) → Node
+node_record_of kind.Junction u multiplier ws = junction_record u multiplier ws
+node_record_of kind.Reservoir u multiplier ws = reservoir_record u ws
+node_record_of kind.Tank u multiplier ws = tank_record u ws
+node_record_of kind.Pipe u multiplier ws = tank_record u ws
+node_record_of kind.CheckedPipe u multiplier ws = tank_record u ws
+node_record_of (kind.Valve k) u multiplier ws = tank_record u ws

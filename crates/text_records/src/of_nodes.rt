@@ -1,24 +1,24 @@
 // The records of nodes: node.rs `initial_head`, state.rs `apply_patterns`.
 ghost use Rattle.std.specs.Prelude.{◌≡◌};
-ghost use Rattle.line_words.specs.Words.{words_of};
-ghost use Rattle.word_places.specs.Places.{Words};
 ghost use Rattle.text_records.specs.Nodes.{junction_record, reservoir_record, tank_record, node_record_of};
 
 use crate::figures::feet_at;
 use line_fields::{is_keyword, number_or_zero};
+use named_lines::Kind;
 use records::{Node, NodeKind};
 use text_units::{Units, cubic_feet};
+use word_places::LineWords;
 
 // A junction. Its demand goes by a pattern of 1 and by the multiplier.
-fn junction_record(line: &[u8], places: &[usize; 20], u: Units, multiplier: f64) -> Node
-    requires { Words line.now places.now }
-    ensures { result ≡ junction_record u multiplier (words_of line.now) }
+#[tactic(auto, unfolding(crate::specs::Nodes::junction_record, crate::specs::Nodes::demand_of))]
+fn junction_record(words: &LineWords<'_>, u: Units, multiplier: f64) -> Node
+    ensures { result ≡ junction_record u multiplier words.now }
 {
     Node {
         kind: NodeKind::Junction,
         disabled: false,
-        elevation: feet_at(line, places, 1, u),
-        demand: 0.0 + cubic_feet(u, number_or_zero(line, places, 2)) * 1.0 * multiplier,
+        elevation: feet_at(words, 1, u),
+        demand: 0.0 + cubic_feet(u, number_or_zero(words, 2)) * 1.0 * multiplier,
         head: 0.0,
         highest: 0.0,
         lowest: 0.0,
@@ -27,11 +27,11 @@ fn junction_record(line: &[u8], places: &[usize; 20], u: Units, multiplier: f64)
 }
 
 // A reservoir: its one number is its elevation and its head.
-fn reservoir_record(line: &[u8], places: &[usize; 20], u: Units) -> Node
-    requires { Words line.now places.now }
-    ensures { result ≡ reservoir_record u (words_of line.now) }
+#[tactic(auto, unfolding(crate::specs::Nodes::reservoir_record))]
+fn reservoir_record(words: &LineWords<'_>, u: Units) -> Node
+    ensures { result ≡ reservoir_record u words.now }
 {
-    let head = feet_at(line, places, 1, u);
+    let head = feet_at(words, 1, u);
     Node {
         kind: NodeKind::Reservoir,
         disabled: false,
@@ -45,39 +45,31 @@ fn reservoir_record(line: &[u8], places: &[usize; 20], u: Units) -> Node
 }
 
 // A tank: its head is its level above its elevation.
-fn tank_record(line: &[u8], places: &[usize; 20], u: Units) -> Node
-    requires { Words line.now places.now }
-    ensures { result ≡ tank_record u (words_of line.now) }
+#[tactic(auto, unfolding(crate::specs::Nodes::tank_record, spelled::specs::Texts::bytes_of))]
+fn tank_record(words: &LineWords<'_>, u: Units) -> Node
+    ensures { result ≡ tank_record u words.now }
 {
-    let elevation = feet_at(line, places, 1, u);
+    let elevation = feet_at(words, 1, u);
     Node {
         kind: NodeKind::Tank,
         disabled: false,
         elevation: elevation,
         demand: 0.0,
-        head: elevation + feet_at(line, places, 2, u),
-        highest: feet_at(line, places, 4, u),
-        lowest: feet_at(line, places, 3, u),
-        overflow: is_keyword(line, places, 8, b"YES"),
+        head: elevation + feet_at(words, 2, u),
+        highest: feet_at(words, 4, u),
+        lowest: feet_at(words, 3, u),
+        overflow: is_keyword(words, 8, b"YES"),
     }
 }
 
-// The record of a node from its line, where kind 0 is a junction, 1 a reservoir, and any other a tank.
-pub fn node_record(
-    line: &[u8],
-    places: &[usize; 20],
-    kind: usize,
-    u: Units,
-    multiplier: f64,
-) -> Node
-    requires { Words line.now places.now }
-    ensures { result ≡ node_record_of kind u multiplier (words_of line.now) }
+// The record of a node from its line; what is no junction and no reservoir is a tank.
+#[tactic(auto, unfolding(crate::specs::Nodes::node_record_of))]
+pub fn node_record(words: &LineWords<'_>, kind: Kind, u: Units, multiplier: f64) -> Node
+    ensures { result ≡ node_record_of kind u multiplier words.now }
 {
-    if kind == 0 {
-        return junction_record(line, places, u, multiplier);
+    match kind {
+        Kind::Junction => junction_record(words, u, multiplier),
+        Kind::Reservoir => reservoir_record(words, u),
+        _ => tank_record(words, u),
     }
-    if kind == 1 {
-        return reservoir_record(line, places, u);
-    }
-    tank_record(line, places, u)
 }

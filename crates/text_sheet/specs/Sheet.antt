@@ -1,5 +1,5 @@
 -- The sheet of an EPANET text, and the list of its names, from what its lines make known. Definitions only.
-use Rattle.std.specs.Prelude.{ℕ, ◌+◌, ◌-◌, ◌*◌, true, false, cond, List, [], ◌∷◌, ◌++◌, eqb, leb, Float, length}
+use Rattle.std.specs.Prelude.{ℕ, ◌+◌, ◌-◌, ◌*◌, cond, List, [], ◌∷◌, ◌++◌, Option, Some, None, leb, Float, length}
 use Rattle.records.specs.declared.records.Options.{Options}
 use Rattle.records.specs.declared.records.Pressures.{Pressures}
 use Rattle.records.specs.declared.records.Node.{Node}
@@ -11,7 +11,6 @@ use Rattle.named_lines.specs.Named.{Named, name_of, position_of}
 use Rattle.known.specs.Known.{Known}
 use Rattle.text_units.specs.Units.{units_of, pressure_feet}
 use Rattle.text_units.specs.declared.Units.{Units}
-use Rattle.text_sheet.specs.declared.names.Room.{Room}
 use Rattle.text_records.specs.Nodes.{node_record_of}
 use Rattle.text_records.specs.Links.{link_record_of}
 
@@ -35,13 +34,9 @@ unfoldable pub nodes_bytes : Settings → List Named → List ℕ
 nodes_bytes o [] = []
 nodes_bytes o (x ∷ xs) = node_bytes (node_with (units_of o.unit) o.multiplier x) ++ nodes_bytes o xs
 
--- a pipe with a check valve, 7, is a pipe
-unfoldable pub record_kind : ℕ → ℕ
-record_kind kind = cond {A = ℕ} (eqb kind 7) 0 kind
-
 -- an end is the number of the node that has its name
 unfoldable pub link_with : Units → List Named → Named → Link
-link_with u nodes x = link_record_of (record_kind x.kind) u x.words x.said (position_of (word_in x.words 1) nodes) (position_of (word_in x.words 2) nodes)
+link_with u nodes x = link_record_of x.kind u x.words x.said (position_of (word_in x.words 1) nodes) (position_of (word_in x.words 2) nodes)
 
 unfoldable pub links_bytes : Settings → List Named → List Named → List ℕ
 links_bytes o nodes [] = []
@@ -63,7 +58,6 @@ names_bytes (x ∷ xs) = (name_of x ++ (10 ∷ [])) ++ names_bytes xs
 unfoldable pub names_of : Known → List ℕ
 names_of x = names_bytes x.nodes ++ names_bytes x.links
 
--- whether they fit into so many bytes, and how many are left behind them
-unfoldable pub room_of : List Named → ℕ → Room
-room_of xs room =
-    cond (leb (length (names_bytes xs)) room) (record { fits = true; left = room - length (names_bytes xs) }) (record { fits = false; left = 0 })
+-- how many of so many bytes they leave, if they fit into them
+unfoldable pub room_of : List Named → ℕ → Option ℕ
+room_of xs room = cond (leb (length (names_bytes xs)) room) (Some (room - length (names_bytes xs))) None

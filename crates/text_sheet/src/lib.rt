@@ -4,5 +4,5 @@
 mod names;
 mod parts;
 
-pub use names::{Room, put_names, room_behind};
+pub use names::{put_names, room_behind};
 pub use parts::{put_sheet, sheet_length};

@@ -2,11 +2,10 @@
 #![tactic(auto)]
 
 ghost use Rattle.std.specs.Prelude.{◌≡◌};
-ghost use Rattle.power.specs.Tables.{power_table, power_table871};
 ghost use Rattle.text_units.specs.Units.{units_of, feet_of, diameter_feet, pressure_feet, cubic_feet, resistance_of, first_flow};
 
 use damping::factor;
-use power::{power, power_871};
+use power::{PowerTable, PowerTable871, power, power_871};
 
 const MperFT: f64 = 0.3048;
 
@@ -71,10 +70,9 @@ pub fn resistance(
     length: f64,
     diameter: f64,
     roughness: f64,
-    table: &[u64; 1153],
-    table_871: &[u64; 1153],
+    table: &PowerTable,
+    table_871: &PowerTable871,
 ) -> f64
-    requires { (table.now ≡ power_table) × (table_871.now ≡ power_table871) }
     ensures { result ≡ resistance_of length diameter roughness }
 {
     let square = diameter * diameter;

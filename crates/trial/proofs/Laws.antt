@@ -6,10 +6,8 @@ use mathlib.Core.Bool.{Bool}
 use native.Mathlib.Omega.{arith}
 use lib.ListN.{length}
 use lib.Ieee.{Float}
-use Rattle.linear.specs.Factorization.{factor_of}
+use Rattle.linear.specs.Factorization.{factor_of, Factored}
 use Rattle.substitution.specs.Substitution.{solved}
-use Rattle.linear.specs.declared.factorization.Factored.{Factored}
-use Rattle.linear.specs.declared.factorization.Factored.TheVariants.{Done, Stopped}
 use Rattle.linear.specs.declared.factorization.UnknownIndex.{UnknownIndex}
 use Rattle.columns.specs.Columns.{cleared, zeros}
 use Rattle.columns.proofs.Laws.{zeros_long}
@@ -31,6 +29,7 @@ use Rattle.repair.specs.Repair.{repaired, repair_at}
 use Rattle.damping.specs.declared.steps.Damping.{Damping}
 use Rattle.entries.specs.declared.Entry.{Entry}
 use Rattle.trial.specs.Trial.{Outcome, outcome, Repair, repair_of, step_of, factored, system_of, factors_of, trial_with}
+use Rattle.std.specs.Prelude.{Err, Ok}
 
 module _ (s : List ℕ) (l : Layout) (t : State) (m₀ counted e m r g y : List Float) where
   pub system_of_lem : length m₀ ≡ 4096 → counted ≡ counting l.pressures t.drawn t.demands → e ≡ excess_of s l counted t.flows (zeros 64)
@@ -44,11 +43,11 @@ module _ (s : List ℕ) (l : Layout) (t : State) (m₀ counted e m r g y : List 
 -- the two ways of a trial, whatever the repair: x are the factors, f the factorization's answer
 module _ (repair : Repair) (s : List ℕ) (l : Layout) (d : Damping) (t : State) (m r g y x : List Float) (f : Factored) (o : Outcome)
     (assembled : system m r g y ≡ system_of s l t) (left : x ≡ (factor_of l.unknowns m).matrix) (answered : f ≡ (factor_of l.unknowns m).answer) where
-  pub trial_stops : (u : UnknownIndex) → f ≡ Stopped u → o ≡ repair s l t (node_numbered s l l.nodes u.0) → o ≡ trial_with repair s l d t
+  pub trial_stops : (u : UnknownIndex) → f ≡ Err u → o ≡ repair s l t (node_numbered s l l.nodes u.0) → o ≡ trial_with repair s l d t
   unfolding trial_with factored
   trial_stops u e h = rw (← assembled, ← answered, e) h
 
-  pub trial_steps : (w : List Float) → f ≡ Done → w ≡ solved x l.unknowns r → o ≡ step_of s l d t g y w → o ≡ trial_with repair s l d t
+  pub trial_steps : (w : List Float) → f ≡ (Ok tt) → w ≡ solved x l.unknowns r → o ≡ step_of s l d t g y w → o ≡ trial_with repair s l d t
   unfolding trial_with factored
   trial_steps w e h z = rw (← assembled, ← answered, e, ← left, ← h) z
 
@@ -58,7 +57,7 @@ factors_left s l t m r g y x a h = h ∙ ap (λ (b : System). (factor_of l.unkno
 
 -- the node of an unknown at which the factorization stopped is one of the nodes
 pub failing_below : (s : List ℕ) (l : Layout) (m : List Float) (f : Factored) (u : UnknownIndex) (node : NodeIndex) → l.unknowns ≡ serving s l l.nodes
-    → f ≡ (factor_of l.unknowns m).answer → f ≡ Stopped u → node ≡ record { 0 = node_numbered s l l.nodes u.0 } → node.0 < l.nodes
+    → f ≡ (factor_of l.unknowns m).answer → f ≡ Err u → node ≡ record { 0 = node_numbered s l l.nodes u.0 } → node.0 < l.nodes
 failing_below s l m f u node counted answered stopped e =
     let i : node.0 ≡ node_numbered s l l.nodes u.0 = ap (λ (k : NodeIndex). k.0) e in
     omega (arith, i, (node_of s l l.nodes u.0 (omega (arith, stops_below l.unknowns m u (sym answered ∙ stopped), counted))).below)

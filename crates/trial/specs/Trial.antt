@@ -1,10 +1,8 @@
 -- Document 01, item 8: one trial, in the order of hydraulicsolver.rs. What a failed factorization leads to is a parameter, so that the solver that repairs and one
 -- that stops at its first failure are two instances of one definition. Definitions only.
-use Rattle.std.specs.Prelude.{ℕ, List, Float}
-use Rattle.linear.specs.Factorization.{factor_of}
+use Rattle.std.specs.Prelude.{ℕ, List, Float, Err, Ok}
+use Rattle.linear.specs.Factorization.{factor_of, Factored}
 use Rattle.substitution.specs.Substitution.{solved}
-use Rattle.linear.specs.declared.factorization.Factored.{Factored}
-use Rattle.linear.specs.declared.factorization.Factored.TheVariants.{Done, Stopped}
 use Rattle.columns.specs.Columns.{zeros}
 use Rattle.layout.specs.declared.places.Layout.{Layout}
 use Rattle.numbering.specs.Numbering.{node_numbered}
@@ -36,8 +34,8 @@ no_repair s l t i = outcome (Singular (record { 0 = i })) t
 -- after the factorization, which leaves f: a stop at an unknown is one at its node
 unfoldable pub factored : Repair → List ℕ → Layout → Damping → State → System → List Float → Factored → Outcome
 unfolding step_of node_numbered
-factored repair s l d t a f (Stopped u) = repair s l t (node_numbered s l l.nodes u.0)
-factored repair s l d t a f Done = step_of s l d t a.g a.y (solved f l.unknowns a.rhs)
+factored repair s l d t a f (Err u) = repair s l t (node_numbered s l l.nodes u.0)
+factored repair s l d t a f (Ok tt) = step_of s l d t a.g a.y (solved f l.unknowns a.rhs)
 
 -- the system of a state: excess flows of the demands that count, then the assembly
 unfoldable pub system_of : List ℕ → Layout → State → System

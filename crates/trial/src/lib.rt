@@ -2,7 +2,6 @@
 #![tactic(auto)]
 
 ghost use Rattle.std.specs.Prelude.{◌≡◌, ◌≤◌, length};
-ghost use Rattle.power.specs.Tables.{power_table};
 ghost use Rattle.columns.specs.Columns.{zeros};
 ghost use Rattle.numbering.specs.Numbering.{RowsRight};
 ghost use Rattle.links_at.specs.LinksAt.{LinksAt};
@@ -14,7 +13,7 @@ ghost use Rattle.trial.specs.Trial.{factors_of, trial_of};
 use damping::Damping;
 use entries::Entry;
 use layout::Layout;
-use linear::Factored;
+use power::PowerTable;
 
 // One trial. A failed one changes statuses or grounded marks alone. The scratch, all +0.0,
 // becomes the matrix and then its factors.
@@ -24,7 +23,7 @@ pub fn trial(
     unknowns: &[usize],
     places: &[usize],
     listed: &[usize],
-    table: &[u64; 1153],
+    table: &PowerTable,
     d: Damping,
     heads: &mut [f64],
     demands: &mut [f64],
@@ -37,7 +36,6 @@ pub fn trial(
     requires network { Network l sheet.now }
     requires links_at { LinksAt l sheet.now places.now listed.now }
     requires nodes_in_bounds { (l.nodes ≤ length unknowns.now) × (RowsRight l sheet.now unknowns.now) }
-    requires table_value { table.now ≡ power_table }
     requires room { Room l (state heads.old demands.old drawn.old flows.old statuses.old grounded.old) }
     requires scratch_value { scratch.old ≡ zeros 4096 }
     ensures state { outcome result (state heads.new demands.new drawn.new flows.new statuses.new grounded.new) ≡ trial_of sheet.now l d (state heads.old demands.old drawn.old flows.old statuses.old grounded.old) }
@@ -54,11 +52,11 @@ pub fn trial(
         scratch, &mut rhs, &mut g, &mut y,
     );
     match linear::factor(scratch, l.unknowns) {
-        Factored::Stopped(u) => {
+        Err(u) => {
             let node = numbering::node_of(sheet, l, unknowns, u);
             repair::repair(sheet, l, places, listed, statuses, grounded, node)
         }
-        Factored::Done => {
+        Ok(()) => {
             substitution::substitute(scratch, l.unknowns, &mut rhs);
             step::step(
                 sheet, l, unknowns, places, listed, d, &g, &y, &rhs, heads, demands, drawn, flows,

@@ -10,14 +10,13 @@ use Rattle.layout.specs.declared.places.Layout.{Layout}
 use Rattle.damping.specs.declared.steps.Damping.{Damping}
 use Rattle.state.specs.State.{State}
 use Rattle.trial.specs.Trial.{Repair}
-use Rattle.entries.specs.Entries.{none}
+use Rattle.entries.specs.Entries.{none, Going}
 use Rattle.entries.specs.declared.Ended.{Ended}
 use Rattle.entries.specs.declared.Ended.TheVariants.{Limit}
-use Rattle.entries.specs.declared.Going.{Going}
-use Rattle.entries.specs.declared.Going.TheVariants.{On, Over}
 use Rattle.entries.specs.declared.Tally.{Tally}
 use Rattle.runs.specs.Run.{Turned, turn_of}
 use Rattle.turns.specs.Turns.{due, follows, next_turn}
+use Rattle.std.proofs.Common.{Break, Continue}
 
 pub record Due (trials : ℕ) (t : Tally) : Type 0 where
   pub more : t.trials < trials
@@ -54,18 +53,18 @@ module _ (repair : Repair) (s : List ℕ) (l : Layout) (trials : ℕ) (d : Dampi
   next_due e = rw e
 
   pub next_none : due trials tally ≡ false
-      → record { turn = record { going = Over Limit; tally = none }; bytes = bytes; state = t } ≡ next_turn repair s l trials d tally bytes t
+      → record { turn = record { going = Break Limit; tally = none }; bytes = bytes; state = t } ≡ next_turn repair s l trials d tally bytes t
   unfolding next_turn
   next_none e = rw e
 
-pub follow_on : (trials : ℕ) (t : Tally) (g : Going) (d : Damping) → g ≡ On d → t.trials < trials → On d ≡ follows trials t g
+pub follow_on : (trials : ℕ) (t : Tally) (g : Going) (d : Damping) → g ≡ Continue d → t.trials < trials → Continue d ≡ follows trials t g
 unfolding follows
 follow_on trials t g d e h = rw (e, lt-ltb _ _ h)
 
-pub follow_limit : (trials : ℕ) (t : Tally) (g : Going) (d : Damping) → g ≡ On d → trials ≤ t.trials → Over Limit ≡ follows trials t g
+pub follow_limit : (trials : ℕ) (t : Tally) (g : Going) (d : Damping) → g ≡ Continue d → trials ≤ t.trials → Break Limit ≡ follows trials t g
 unfolding follows
 follow_limit trials t g d e h = rw (e, le-ltb _ _ h)
 
-pub follow_over : (trials : ℕ) (t : Tally) (g : Going) (z : Ended) → g ≡ Over z → Over z ≡ follows trials t g
+pub follow_over : (trials : ℕ) (t : Tally) (g : Going) (z : Ended) → g ≡ Break z → Break z ≡ follows trials t g
 unfolding follows
 follow_over trials t g z e = rw e

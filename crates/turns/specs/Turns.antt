@@ -4,12 +4,11 @@ use Rattle.layout.specs.declared.places.Layout.{Layout}
 use Rattle.damping.specs.declared.steps.Damping.{Damping}
 use Rattle.state.specs.State.{State}
 use Rattle.trial.specs.Trial.{Repair}
-use Rattle.entries.specs.Entries.{none}
+use Rattle.entries.specs.Entries.{none, Going}
 use Rattle.entries.specs.declared.Ended.TheVariants.{Limit}
-use Rattle.entries.specs.declared.Going.{Going}
-use Rattle.entries.specs.declared.Going.TheVariants.{On, Over}
 use Rattle.entries.specs.declared.Tally.{Tally}
 use Rattle.runs.specs.Run.{Turned, turn_of}
+use Rattle.std.proofs.Common.{Break, Continue}
 
 -- whether the counts can be those of a start and trials with one more to take
 unfoldable pub due : ℕ → Tally → Bool
@@ -19,9 +18,9 @@ due trials t = ltb t.trials trials && leb t.freed t.trials && leb t.grounded t.t
 unfoldable pub next_turn : Repair → List ℕ → Layout → ℕ → Damping → Tally → List ℕ → State → Turned
 unfolding due
 next_turn repair s l trials d tally bytes t =
-    cond (due trials tally) (turn_of repair s l d tally bytes t) (record { turn = record { going = Over Limit; tally = none }; bytes = bytes; state = t })
+    cond (due trials tally) (turn_of repair s l d tally bytes t) (record { turn = record { going = Break Limit; tally = none }; bytes = bytes; state = t })
 
 -- what follows a trial where so many are allowed: after the last one there is none
 unfoldable pub follows : ℕ → Tally → Going → Going
-follows trials t (On d) = cond (ltb t.trials trials) (On d) (Over Limit)
-follows trials t (Over z) = Over z
+follows trials t (Continue d) = cond (ltb t.trials trials) (Continue d) (Break Limit)
+follows trials t (Break z) = Break z

@@ -14,6 +14,7 @@ use damping::Damping;
 use entries::{Ended, Going, Tally};
 use layout::Layout;
 use runs::Turn;
+use std::ops::ControlFlow;
 
 // Whether the counts can be those of a start and trials with one more to take.
 fn due(trials: usize, t: Tally) -> bool
@@ -28,14 +29,14 @@ pub fn follows(trials: usize, turn: Turn) -> Going
 {
     let going = turn.going;
     match going {
-        Going::On(next) => {
+        ControlFlow::Continue(next) => {
             if turn.tally.trials < trials {
-                Going::On(next)
+                ControlFlow::Continue(next)
             } else {
-                Going::Over(Ended::Limit)
+                ControlFlow::Break(Ended::Limit)
             }
         }
-        Going::Over(ended) => Going::Over(ended),
+        ControlFlow::Break(ended) => ControlFlow::Break(ended),
     }
 }
 
@@ -66,7 +67,7 @@ pub fn next_turn(
     columns::clear(4096, scratch);
     if !due(trials, tally) {
         return Turn {
-            going: Going::Over(Ended::Limit),
+            going: ControlFlow::Break(Ended::Limit),
             tally: Tally {
                 trials: 0,
                 freed: 0,

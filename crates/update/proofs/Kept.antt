@@ -10,10 +10,10 @@ use Rattle.links.specs.Links.{link_of}
 use Rattle.codes.specs.Codes.{status_code}
 use Rattle.records.specs.declared.records.Link.{Link}
 use Rattle.constants.specs.Arithmetic.{minus}
-use Rattle.status.specs.declared.Change.{Change}
-use Rattle.status.specs.declared.Change.TheVariants.{Stays, Becomes}
 use Rattle.nodes.specs.Nodes.{enabled}
 use Rattle.update.specs.Update.{still, recoded, Stepping, stepping, Basis, flow_change, change_at, link_set, link_moved, link_update, link_updates, update_of}
+use Rattle.std.specs.Prelude.{None, Some}
+use Rattle.status.specs.Rules.{Change}
 
 -- two states of the columns have them of the same lengths
 record SameLengths (w w₀ : Stepping) : Type 0 where
@@ -26,8 +26,8 @@ either false p r = r
 
 recoded_long : (codes : List ℕ) (i : ℕ) (change : Change) → length (recoded codes i change) ≡ length codes
 unfolding recoded
-recoded_long codes i Stays = refl
-recoded_long codes i (Becomes new cause) = length-set codes i (status_code new)
+recoded_long codes i None = refl
+recoded_long codes i (Some (new, cause)) = length-set codes i (status_code new)
 
 moved_long : (s : List ℕ) (l : Layout) (b : Basis) (k : Link) (j : ℕ) (w w₀ : Stepping) → SameLengths w w₀ → SameLengths (link_moved s l b k j w) w₀
 unfolding link_moved link_set

@@ -15,16 +15,14 @@ use Rattle.records.specs.declared.records.Link.{Link}
 use Rattle.links.specs.Links.{link_of}
 use Rattle.constants.specs.Arithmetic.{plus, minus}
 use Rattle.constants.specs.Constants as constant
-use Rattle.causes.specs.Causes.{first_flip}
+use Rattle.causes.specs.Causes.{first_flip, Flip}
 use Rattle.causes.specs.declared.Cause.{Cause}
-use Rattle.causes.specs.declared.Flip.{Flip}
-use Rattle.status.specs.Rules.{updated_of}
-use Rattle.status.specs.declared.Change.{Change}
-use Rattle.status.specs.declared.Change.TheVariants.{Stays, Becomes}
+use Rattle.status.specs.Rules.{updated_of, Change}
 use Rattle.nodes.specs.Nodes.{enabled, elevation_of}
 use Rattle.update.specs.declared.Stats.{Stats}
 use Rattle.update.specs.declared.Updated.{Updated}
 use Rattle.update.specs.Update.{still, noted, counts, recoded, telling, Stepping, stepping, Basis, flow_change, change_at, link_set, link_moved, link_update, link_updates, update_of}
+use Rattle.std.specs.Prelude.{None, Some}
 
 -- ---- one link
 
@@ -40,19 +38,19 @@ greater a b l h t = rw (t, h)
 pub smaller : (a b l : Float) → l ≡ b → lt b a ≡ false → l ≡ cond (lt b a) a b
 smaller a b l h t = rw (t, h)
 
-pub recoded_new : (codes : List ℕ) (i : ℕ) (change : Change) (new : Status) (cause : Cause) (code : ℕ) → change ≡ Becomes new cause → code ≡ status_code new → set codes i code ≡ recoded codes i change
+pub recoded_new : (codes : List ℕ) (i : ℕ) (change : Change) (new : Status) (cause : Cause) (code : ℕ) → change ≡ Some (new, cause) → code ≡ status_code new → set codes i code ≡ recoded codes i change
 unfolding recoded
 recoded_new codes i change new cause code h e = rw (h, e)
 
-pub recoded_same : (codes : List ℕ) (i : ℕ) (change : Change) → change ≡ Stays → codes ≡ recoded codes i change
+pub recoded_same : (codes : List ℕ) (i : ℕ) (change : Change) → change ≡ None → codes ≡ recoded codes i change
 unfolding recoded
 recoded_same codes i change h = rw h
 
-pub telling_same : (flip : Flip) (j : ℕ) (change : Change) → change ≡ Stays → flip ≡ telling flip j change
+pub telling_same : (flip : Flip) (j : ℕ) (change : Change) → change ≡ None → flip ≡ telling flip j change
 unfolding telling
 telling_same flip j change h = rw h
 
-pub telling_new : (flip r : Flip) (j : ℕ) (change : Change) (new : Status) (cause : Cause) → change ≡ Becomes new cause → r ≡ first_flip flip j cause → r ≡ telling flip j change
+pub telling_new : (flip r : Flip) (j : ℕ) (change : Change) (new : Status) (cause : Cause) → change ≡ Some (new, cause) → r ≡ first_flip flip j cause → r ≡ telling flip j change
 unfolding telling
 telling_new flip r j change new cause h e = rw (h, e)
 

@@ -1,5 +1,5 @@
 -- hydraulicsolver.rs `update_links`: flows and statuses after the heads, and what moved; and which link's status changed first, with the cause (document 02, [2]). Definitions only.
-use Rattle.std.specs.Prelude.{ℕ, zero, suc, Bool, true, false, cond, ◌&&◌, ◌||◌, List, get_or, set, Float}
+use Rattle.std.specs.Prelude.{ℕ, zero, suc, Bool, true, false, cond, ◌&&◌, ◌||◌, List, get_or, set, Float, None, Some}
 use Rattle.std.specs.Float.{nan}
 use Rattle.std.specs.Float.Ieee.{lt}
 use Rattle.float.specs.Sign.{abs_of}
@@ -11,19 +11,15 @@ use Rattle.codes.specs.declared.Status.TheVariants.{Closed, Open, Active, TempCl
 use Rattle.records.specs.declared.records.Link.{Link}
 use Rattle.constants.specs.Arithmetic.{plus, minus, times}
 use Rattle.constants.specs.Constants as constant
-use Rattle.causes.specs.Causes.{first_flip}
-use Rattle.causes.specs.declared.Flip.{Flip}
-use Rattle.causes.specs.declared.Flip.TheVariants.{Nothing}
-use Rattle.status.specs.Rules.{updated_of}
-use Rattle.status.specs.declared.Change.{Change}
-use Rattle.status.specs.declared.Change.TheVariants.{Stays, Becomes}
+use Rattle.causes.specs.Causes.{first_flip, Flip}
+use Rattle.status.specs.Rules.{updated_of, Change}
 use Rattle.nodes.specs.Nodes.{enabled, elevation_of}
 use Rattle.update.specs.declared.Stats.{Stats}
 use Rattle.update.specs.declared.Updated.{Updated}
 
 -- nothing moved yet, and nothing changed
 abbrev pub still : Updated
-still = record { stats = record { moved = constant.zero; total = constant.zero; largest = constant.zero; changed = false }; flip = Nothing }
+still = record { stats = record { moved = constant.zero; total = constant.zero; largest = constant.zero; changed = false }; flip = None }
 
 -- a flow change, the flow after it, and whether a status change counts, taken into the statistics
 unfoldable pub noted : Float → Float → Bool → Stats → Stats
@@ -49,19 +45,19 @@ leaves XPressure = true
 
 unfoldable pub counts : Status → Change → Bool
 unfolding leaves
-counts old Stays = false
-counts old (Becomes new cause) = leaves old
+counts old None = false
+counts old (Some (new, cause)) = leaves old
 
 -- the code of link i after a change
 unfoldable pub recoded : List ℕ → ℕ → Change → List ℕ
-recoded codes i Stays = codes
-recoded codes i (Becomes new cause) = set codes i (status_code new)
+recoded codes i None = codes
+recoded codes i (Some (new, cause)) = set codes i (status_code new)
 
 -- any change is told, whether it counts or not
 unfoldable pub telling : Flip → ℕ → Change → Flip
 unfolding first_flip
-telling flip j Stays = flip
-telling flip j (Becomes new cause) = first_flip flip j cause
+telling flip j None = flip
+telling flip j (Some (new, cause)) = first_flip flip j cause
 
 -- the flows and the status codes as they stand, the statistics so far and the first change
 pub record Stepping : Type 0 where

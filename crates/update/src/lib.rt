@@ -13,7 +13,7 @@ use float::abs;
 use layout::Layout;
 use links::link;
 use nodes::{elevation, is_enabled};
-use records::{Link, Status, status_code, status_of};
+use records::{Link, Status};
 use status::{Change, updated};
 
 // The Rust's sum_dq, sum_q, max_dq and status_changed.
@@ -54,8 +54,8 @@ fn change_counts(old: Status, change: Change) -> bool
     ensures { result ≡ counts old change }
 {
     match change {
-        Change::Stays => false,
-        Change::Becomes(_, _) => match old {
+        None => false,
+        Some(_) => match old {
             Status::TempClosed | Status::Xhead => false,
             _ => true,
         },
@@ -66,8 +66,8 @@ fn recode(statuses: &mut [u8], j: usize, change: Change)
     requires { j < length statuses.old }
     ensures { statuses.new ≡ recoded statuses.old j change }
 {
-    if let Change::Becomes(new, _) = change {
-        statuses[j] = status_code(new);
+    if let Some((new, _)) = change {
+        statuses[j] = u8::from(new);
     }
 }
 
@@ -76,8 +76,8 @@ fn tell(flip: Flip, j: usize, change: Change) -> Flip
     ensures { result ≡ telling flip j change }
 {
     match change {
-        Change::Stays => flip,
-        Change::Becomes(_, cause) => first_flip(flip, j, cause),
+        None => flip,
+        Some((_, cause)) => first_flip(flip, j, cause),
     }
 }
 
@@ -104,7 +104,7 @@ fn change_at(sheet: &[u8], l: Layout, k: Link, code: u8, q: f64, heads: &[f64]) 
     let kind = k.kind;
     updated(
         kind,
-        status_of(code),
+        Status::from(code),
         k.setting,
         q,
         heads[start],
@@ -141,7 +141,7 @@ fn move_link(
     recode(statuses, j, change);
     let stats = u.stats;
     let flip = u.flip;
-    let noted = note(dq, q, change_counts(status_of(code), change), stats);
+    let noted = note(dq, q, change_counts(Status::from(code), change), stats);
     Updated {
         stats: noted,
         flip: tell(flip, j, change),
@@ -198,7 +198,7 @@ pub fn update_links(
     let mut total = 0.0;
     let mut largest = 0.0;
     let mut changed = false;
-    let mut flip = Flip::Nothing;
+    let mut flip = None;
     for j in 0..l.links {
         let so_far = Updated {
             stats: Stats {

@@ -1,6 +1,9 @@
 -- The lines of VALVES as the EPANET 2.2 manual lays them out, what each is refused with by its words alone, and its kind. Definitions only.
-use Rattle.std.specs.Prelude.{ℕ, Bool, not, ◌&&◌, ◌||◌, List, [], ◌∷◌}
+use Rattle.std.specs.Prelude.{ℕ, Bool, not, ◌&&◌, ◌||◌, List, [], ◌∷◌, ⊤, Result}
+use Rattle.codes.specs.declared.LinkKind.{LinkKind}
+use Rattle.codes.specs.declared.LinkKind.TheVariants.{Prv, Psv, Pbv, Fcv, Tcv, Pcv}
 use Rattle.spelled.specs.Texts.{bytes_of}
+use Rattle.line_fields.specs.declared.LineFault.{LineFault}
 use Rattle.line_fields.specs.Fields.{has_word, name_at, number_at, keyword_at, fault_of, first_of}
 use Rattle.first_words.specs.First.{names_good}
 
@@ -14,7 +17,7 @@ by_number ws =
 unfoldable pub by_curve : List (List ℕ) → Bool
 by_curve ws = keyword_at ws 4 (bytes_of "GPV") && name_at ws 5
 
-unfoldable pub valve_fault : List (List ℕ) → ℕ
+unfoldable pub valve_fault : List (List ℕ) → Result ⊤ LineFault
 valve_fault ws =
     fault_of
     (has_word ws 6 && not (has_word ws 7)
@@ -23,16 +26,15 @@ valve_fault ws =
     && (by_number ws || by_curve ws))
     (by_curve ws)
 
--- the codes of a sheet
-unfoldable pub valve_kinds : List (List ℕ) → List (Bool × ℕ)
+unfoldable pub valve_kinds : List (List ℕ) → List (Bool × LinkKind)
 valve_kinds ws =
-    (keyword_at ws 4 (bytes_of "PRV"), 1)
-    ∷ (keyword_at ws 4 (bytes_of "PSV"), 2)
-    ∷ (keyword_at ws 4 (bytes_of "PBV"), 3)
-    ∷ (keyword_at ws 4 (bytes_of "FCV"), 4)
-    ∷ (keyword_at ws 4 (bytes_of "TCV"), 5)
+    (keyword_at ws 4 (bytes_of "PRV"), Prv)
+    ∷ (keyword_at ws 4 (bytes_of "PSV"), Psv)
+    ∷ (keyword_at ws 4 (bytes_of "PBV"), Pbv)
+    ∷ (keyword_at ws 4 (bytes_of "FCV"), Fcv)
+    ∷ (keyword_at ws 4 (bytes_of "TCV"), Tcv)
     ∷ []
 
--- 6 for every other word
-unfoldable pub valve_kind_of : List (List ℕ) → ℕ
-valve_kind_of ws = first_of (valve_kinds ws) 6
+-- PCV for every other word
+unfoldable pub valve_kind_of : List (List ℕ) → LinkKind
+valve_kind_of ws = first_of (valve_kinds ws) Pcv

@@ -2,67 +2,65 @@
 #![tactic(auto)]
 
 ghost use Rattle.std.specs.Prelude.{◌≡◌};
-ghost use Rattle.line_words.specs.Words.{words_of};
-ghost use Rattle.word_places.specs.Places.{Words};
 ghost use Rattle.valve_lines.specs.Valves.{by_number, by_curve, valve_fault, valve_kind_of};
 
+use codes::LinkKind;
 use first_words::names_good;
-use line_fields::{fault, is_keyword, is_name, is_number};
-use word_places::has_word;
+use line_fields::{LineFault, fault, is_keyword, is_name, is_number};
+use word_places::LineWords;
 
 // PRV, PSV, PBV, FCV or TCV with a number for its setting.
-fn by_number(line: &[u8], places: &[usize; 20]) -> bool
-    requires { Words line.now places.now }
-    ensures { result ≡ by_number (words_of line.now) }
+#[tactic(auto, unfolding(crate::specs::Valves::by_number, spelled::specs::Texts::bytes_of))]
+fn by_number(words: &LineWords<'_>) -> bool
+    ensures { result ≡ by_number words.now }
 {
-    let regulates = is_keyword(line, places, 4, b"PRV")
-        | is_keyword(line, places, 4, b"PSV")
-        | is_keyword(line, places, 4, b"PBV");
-    (regulates | is_keyword(line, places, 4, b"FCV") | is_keyword(line, places, 4, b"TCV"))
-        & is_number(line, places, 5)
+    let regulates = is_keyword(words, 4, b"PRV")
+        | is_keyword(words, 4, b"PSV")
+        | is_keyword(words, 4, b"PBV");
+    (regulates | is_keyword(words, 4, b"FCV") | is_keyword(words, 4, b"TCV")) & is_number(words, 5)
 }
 
 // GPV with the name of a curve, which is not carried.
-fn by_curve(line: &[u8], places: &[usize; 20]) -> bool
-    requires { Words line.now places.now }
-    ensures { result ≡ by_curve (words_of line.now) }
+#[tactic(auto, unfolding(crate::specs::Valves::by_curve, spelled::specs::Texts::bytes_of))]
+fn by_curve(words: &LineWords<'_>) -> bool
+    ensures { result ≡ by_curve words.now }
 {
-    is_keyword(line, places, 4, b"GPV") & is_name(line, places, 5)
+    is_keyword(words, 4, b"GPV") & is_name(words, 5)
 }
 
 // Name, start, end, diameter, type, setting, minor loss.
-pub fn valve_fault(line: &[u8], places: &[usize; 20]) -> u64
-    requires { Words line.now places.now }
-    ensures { result ≡ valve_fault (words_of line.now) }
+#[tactic(auto, unfolding(crate::specs::Valves::valve_fault))]
+pub fn valve_fault(words: &LineWords<'_>) -> Result<(), LineFault>
+    ensures { result ≡ valve_fault words.now }
 {
-    let count = has_word(line, places, 6) & !has_word(line, places, 7);
-    let numbers = is_number(line, places, 3) & is_number(line, places, 6);
-    let curve = by_curve(line, places);
+    let count = words.has(6) & !words.has(7);
+    let numbers = is_number(words, 3) & is_number(words, 6);
+    let curve = by_curve(words);
     fault(
-        count & names_good(line, places) & numbers & (by_number(line, places) | curve),
+        count & names_good(words) & numbers & (by_number(words) | curve),
         curve,
     )
 }
 
-// A valve's kind by the code of a sheet: PRV 1, PSV 2, PBV 3, FCV 4, TCV 5, any other 6.
-pub fn valve_kind(line: &[u8], places: &[usize; 20]) -> u64
-    requires { Words line.now places.now }
-    ensures { result ≡ valve_kind_of (words_of line.now) }
+// A valve's kind, PCV for any other word.
+#[tactic(auto, unfolding(crate::specs::Valves::valve_kind_of, crate::specs::Valves::valve_kinds, line_fields::specs::Fields::first_of, spelled::specs::Texts::bytes_of))]
+pub fn valve_kind(words: &LineWords<'_>) -> LinkKind
+    ensures { result ≡ valve_kind_of words.now }
 {
-    if is_keyword(line, places, 4, b"PRV") {
-        return 1;
+    if is_keyword(words, 4, b"PRV") {
+        return LinkKind::Prv;
     }
-    if is_keyword(line, places, 4, b"PSV") {
-        return 2;
+    if is_keyword(words, 4, b"PSV") {
+        return LinkKind::Psv;
     }
-    if is_keyword(line, places, 4, b"PBV") {
-        return 3;
+    if is_keyword(words, 4, b"PBV") {
+        return LinkKind::Pbv;
     }
-    if is_keyword(line, places, 4, b"FCV") {
-        return 4;
+    if is_keyword(words, 4, b"FCV") {
+        return LinkKind::Fcv;
     }
-    if is_keyword(line, places, 4, b"TCV") {
-        return 5;
+    if is_keyword(words, 4, b"TCV") {
+        return LinkKind::Tcv;
     }
-    6
+    LinkKind::Pcv
 }

@@ -4,7 +4,7 @@
 ghost use Rattle.std.specs.Prelude.{◌≡◌};
 ghost use Rattle.valves.specs.Valve.{valve_coefficients, minor_loss, pcv_minor_loss, fcv_of, right_side, prv_of, psv_of, regulator_of, valve_of};
 
-use coefficient::{Coefficients, absent, held, simple};
+use coefficient::{Coefficients, held, simple};
 use constants::{BIG_VALUE, LOSS_FACTOR, RQ_TOL, SMALL_VALUE};
 use float::{abs, clamp, smaller, whole_power};
 use records::{Link, LinkKind, Status};
@@ -79,7 +79,7 @@ fn prv(target: f64, excess: f64) -> Coefficients
     Coefficients {
         conductance: 0.0,
         offset: excess,
-        upstream: absent(),
+        upstream: None,
         downstream: held(right_side(target, excess, excess < 0.0)),
     }
 }
@@ -92,7 +92,7 @@ fn psv(target: f64, excess: f64) -> Coefficients
         conductance: 0.0,
         offset: -excess,
         upstream: held(right_side(target, excess, excess > 0.0)),
-        downstream: absent(),
+        downstream: None,
     }
 }
 

@@ -4,30 +4,10 @@
 // last.
 #![tactic(auto)]
 
-ghost use Rattle.std.specs.Prelude.{◌≤◌, length};
-
-use sale::Verdict;
 use std::io;
 use std::io::{Read, Write};
 use std::process::ExitCode;
 use tolerance::Limits;
-
-// Three f64s, one behind the other.
-fn limits_in(head: &[u8]) -> Limits
-    requires { 24 ≤ length head.now }
-{
-    Limits {
-        pressure: patterns::from_bytes(head, 0),
-        head: patterns::from_bytes(head, 8),
-        flow: patterns::from_bytes(head, 16),
-    }
-}
-
-fn tell<W: Write>(writer: &mut W, v: Verdict) -> io::Result<()> {
-    let mut out = [0u8; 64];
-    let n = verdict_line::verdict_line(v.number, v.place, &mut out, 0);
-    standard::put(writer, &out[..n])
-}
 
 fn judge<W: Write>(writer: &mut W, sheet: &[u8], limits: Limits) -> io::Result<()> {
     let mut heads = [0.0f64; 64];
@@ -46,7 +26,7 @@ fn judge<W: Write>(writer: &mut W, sheet: &[u8], limits: Limits) -> io::Result<(
         &mut entries,
         &mut scratch,
     );
-    tell(writer, s.verdict)
+    standard::put_verdict(writer, s.verdict.number, s.verdict.place)
 }
 
 fn list<W: Write>(writer: &mut W, sheet: &[u8]) -> io::Result<()> {
@@ -55,37 +35,22 @@ fn list<W: Write>(writer: &mut W, sheet: &[u8]) -> io::Result<()> {
     standard::put_item(writer, &mut out, n)
 }
 
-fn show<W: Write>(writer: &mut W, sheet: &[u8], limits: Limits) -> io::Result<()> {
-    judge(writer, sheet, limits)?;
-    list(writer, sheet)
-}
-
 // One sheet with its limits, or false where there is none.
 fn step<R: Read, W: Write>(reader: &mut R, writer: &mut W) -> io::Result<bool> {
     let mut head = [0u8; 28];
     let mut buffer = [0u8; 65536];
-    let next = standard::next_sheet(reader, writer, &mut head, &mut buffer)?;
-    if next.none {
+    let Some(size) = standard::next_sheet(reader, writer, &mut head, &mut buffer)? else {
         return Ok(false);
-    }
-    let limits = limits_in(&head);
-    let size = next.size;
-    show(writer, &buffer[..size], limits)?;
+    };
+    let sheet = &buffer[..size];
+    judge(writer, sheet, standard::limits_in(&head))?;
+    list(writer, sheet)?;
     Ok(true)
 }
 
-fn run(rt: &HostRuntime) -> io::Result<()> {
+fn main(rt: HostRuntime) -> ExitCode {
     let mut reader = rt.stdin();
     let mut writer = rt.stdout();
-    for _ in 0..u64::MAX {
-        if !step(&mut reader, &mut writer)? {
-            return Ok(());
-        }
-    }
-    Ok(())
-}
-
-fn main(rt: HostRuntime) -> ExitCode {
-    let done = run(&rt);
+    let done = standard::take_steps(u64::MAX, || step(&mut reader, &mut writer));
     standard::ended(&rt, done)
 }

@@ -7,11 +7,9 @@ use std::io::Write;
 use std::process::ExitCode;
 
 fn show<W: Write>(writer: &mut W, word: &[u8]) -> io::Result<()> {
-    let w = decimal_words::spelled_number(word);
-    if w.good {
-        standard::put_hex(writer, patterns::pattern(decimal_words::worth(w)))?;
-    } else {
-        standard::put(writer, b"-")?;
+    match decimal_words::spelled_number(word) {
+        Some(w) => standard::put_float(writer, decimal_words::worth(w))?,
+        None => standard::put(writer, b"-")?,
     }
     standard::put(writer, b" ")
 }
@@ -20,13 +18,11 @@ fn show_words<W: Write>(writer: &mut W, line: &[u8]) -> io::Result<()> {
     let mut at: usize = 0;
     loop {
         let w = line_words::next_word(line, at);
-        let start = w.start;
-        let end = w.end;
-        if end <= start {
+        if w.end <= w.start {
             return Ok(());
         }
-        show(writer, &line[start..end])?;
-        at = end;
+        show(writer, &line[w.start..w.end])?;
+        at = w.end;
     }
 }
 
@@ -34,13 +30,12 @@ fn show_lines<W: Write>(writer: &mut W, text: &[u8]) -> io::Result<()> {
     let mut at: usize = 0;
     loop {
         let l = lines::line_at(text, at);
-        let end = l.end;
-        show_words(writer, &text[at..end])?;
+        show_words(writer, &text[at..l.end])?;
         standard::put(writer, b"\n")?;
-        if l.last {
+        let Some(next) = l.next else {
             return Ok(());
-        }
-        at = l.next;
+        };
+        at = next;
     }
 }
 

@@ -3,10 +3,10 @@ use borrow.Author.Rules.{rules}
 use Rattle.causes.specs.Causes.{first_flip}
 use Rattle.causes.proofs.first_flip.Goals as goal
 
-pub returns-in-Nothing : goal.returns-in-Nothing
+pub returns-in-None : goal.returns-in-None
 unfolding first_flip
-returns-in-Nothing c = rw c.in-Nothing.is
+returns-in-None c = rw c.in-None.is
 
-pub returns-in-Link : goal.returns-in-Link
+pub returns-in-Some : goal.returns-in-Some
 unfolding first_flip
-returns-in-Link c = rw c.in-Link.is
+returns-in-Some c = rw c.in-Some.is

@@ -6,14 +6,14 @@ use borrow.Author.Rules.{rules}
 use Rattle.causes.proofs.flip_number.Goals as goal
 
 pub overflow_mul-result : goal.overflow_mul-result
-overflow_mul-result c = omega (arith, c.cause_code-high.ensures, cause_small c.in-Link.cause)
+overflow_mul-result c = omega (arith, c.cause_code-high.ensures, cause_small c.in-Some.cause)
 
 pub overflow_add-result : goal.overflow_add-result
-overflow_add-result c = omega (arith, c.cause_code-high.ensures, cause_small c.in-Link.cause)
+overflow_add-result c = omega (arith, c.cause_code-high.ensures, cause_small c.in-Some.cause)
 
-pub returns-in-Nothing : goal.returns-in-Nothing
+pub returns-in-None : goal.returns-in-None
 unfolding flip_number
-returns-in-Nothing c = rw c.in-Nothing.is
+returns-in-None c = rw c.in-None.is
 
-pub returns-in-Link : goal.returns-in-Link
-returns-in-Link c = number_of _ _ _ _ c.in-Link.is c.cause_code-high.ensures
+pub returns-in-Some : goal.returns-in-Some
+returns-in-Some c = number_of _ _ _ _ c.in-Some.is c.cause_code-high.ensures

@@ -1,8 +1,8 @@
 -- `coefficient::simple` meets its contract. Assumes nothing.
-use Rattle.coefficient.specs.Link.{simple_of}
-use borrow.Author.Rules.{rules}
+use mathlib.Core.Path.{refl}
+use Rattle.coefficient.specs.Link.{no_addition, simple_of}
 use Rattle.coefficient.proofs.simple.Goals as goal
 
 pub returns : goal.returns
-unfolding simple_of
-returns c = simp (c.absent.ensures, c.absent-2.ensures)
+unfolding simple_of no_addition
+returns c = refl

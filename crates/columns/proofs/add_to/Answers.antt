@@ -1,6 +1,5 @@
 -- `columns::add_to` meets its contract. Assumes nothing.
 use Rattle.columns.specs.Columns.{add_to}
-use borrow.Author.Rules.{rules}
 use mathlib.Core.Path.{refl}
 use Rattle.columns.proofs.add_to.Goals as goal
 

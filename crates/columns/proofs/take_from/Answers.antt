@@ -1,6 +1,5 @@
 -- `columns::take_from` meets its contract. Assumes nothing.
 use Rattle.columns.specs.Columns.{take_from}
-use borrow.Author.Rules.{rules}
 use mathlib.Core.Path.{refl}
 use Rattle.columns.proofs.take_from.Goals as goal
 

@@ -1,6 +1,4 @@
 -- `desk_text::desk_text` meets its contract, for any text and any buffers. Assumes nothing.
-use mathlib.Core.Path.{ap, ◌∙◌}
-use borrow.Author.Rules.{rules}
 use Rattle.desk_text.specs.Told.{told_of}
 use Rattle.desk_text.proofs.desk_text.Goals as goal
 

@@ -9,4 +9,4 @@ pub returns-then-not-link_serves : goal.returns-then-not-link_serves
 returns-then-not-link_serves c = held_out _ _ _ _ _ c.link_serves.ensures (ap not c.if-not-link_serves.true)
 
 pub returns : goal.returns
-returns c = held_in _ _ _ _ _ c.link_serves.ensures (ap not c.if-not-link_serves.false) _ _ _ c.link-k.ensures c.status_of.ensures c.holds.ensures
+returns c = held_in _ _ _ _ _ c.link_serves.ensures (ap not c.if-not-link_serves.false) _ _ _ c.link-k.ensures c.from.ensures c.holds.ensures

@@ -7,7 +7,7 @@ pub returns-in_default : goal.returns-in_default
 returns-in_default c = mark_none _ _ c.in_default.is
 
 pub bounds-held-i : goal.bounds-held-i
-bounds-held-i c = c.requires.below _ c.in-At.is
+bounds-held-i c = c.requires.below _ c.in-Some.is
 
 pub returns : goal.returns
-returns c = mark_at _ _ _ c.in-At.is
+returns c = mark_at _ _ _ c.in-Some.is

@@ -1,8 +1,8 @@
 -- `held_heads::holds` meets its contract. Assumes nothing.
-use borrow.Author.Rules.{rules}
-use mathlib.Core.Path.{sym, subst}
+use mathlib.Core.Path.{◌≡◌, sym, subst}
 use Prim.Native.Nat.{ℕ, ◌<◌}
 use Rattle.held_heads.proofs.Laws.{holds_of}
+use Rattle.codes.specs.Codes.{status_code}
 use Rattle.held_heads.proofs.holds.Goals as goal
 
 pub is_enabled-requires-clause-laid : goal.is_enabled-requires-clause-laid
@@ -18,4 +18,7 @@ pub is_enabled-requires-2-clause-i_lt_nodes : goal.is_enabled-requires-2-clause-
 is_enabled-requires-2-clause-i_lt_nodes c = subst (λ (k : ℕ). k < c.args.l.nodes) (sym c.link_end-end.ensures) (c.requires.ends_in.end _ c.requires.j_lt_links.0)
 
 pub returns : goal.returns
-returns c = holds_of _ _ _ _ _ _ _ _ _ c.link_start-start.ensures c.link_end-end.ensures c.is_enabled.ensures c.is_enabled-2.ensures c.is_regulator.ensures
+unfolding status_code
+returns c =
+    let active : c.from.result ≡ 2 = c.from.ensures in
+    rw active (holds_of _ _ _ _ _ _ _ _ _ c.link_start-start.ensures c.link_end-end.ensures c.is_enabled.ensures c.is_enabled-2.ensures c.is_regulator.ensures)

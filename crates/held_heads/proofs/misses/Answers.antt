@@ -1,5 +1,4 @@
 -- `held_heads::misses` meets its contract. Assumes nothing.
-use borrow.Author.Rules.{rules}
 use Rattle.held_heads.proofs.Laws.{misses_of}
 use Rattle.held_heads.proofs.misses.Goals as goal
 

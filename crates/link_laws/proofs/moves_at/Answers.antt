@@ -11,51 +11,46 @@ pub link-k-requires-clause-laid : goal.link-k-requires-clause-laid
 link-k-requires-clause-laid c = c.requires.laid
 
 pub link-k-requires-clause-j_lt_links : goal.link-k-requires-clause-j_lt_links
-link-k-requires-clause-j_lt_links c = c.requires.table_value.1
+link-k-requires-clause-j_lt_links c = c.requires.j_lt_links
 
 pub is_enabled-requires-clause-laid : goal.is_enabled-requires-clause-laid
 is_enabled-requires-clause-laid c =
-    let below : (c.link-k.result.start < c.args.l.nodes) × (c.link-k.result.end < c.args.l.nodes) = (start_below _ _ _ _ c.requires.ends_in c.requires.table_value.1 c.link-k.ensures, end_below _ _ _ _ c.requires.ends_in c.requires.table_value.1 c.link-k.ensures) in
+    let below : (c.link-k.result.start < c.args.l.nodes) × (c.link-k.result.end < c.args.l.nodes) = (start_below _ _ _ _ c.requires.ends_in c.requires.j_lt_links c.link-k.ensures, end_below _ _ _ _ c.requires.ends_in c.requires.j_lt_links c.link-k.ensures) in
     c.requires.laid
 
 pub is_enabled-requires-clause-i_lt_nodes : goal.is_enabled-requires-clause-i_lt_nodes
 is_enabled-requires-clause-i_lt_nodes c =
-    let below : (c.link-k.result.start < c.args.l.nodes) × (c.link-k.result.end < c.args.l.nodes) = (start_below _ _ _ _ c.requires.ends_in c.requires.table_value.1 c.link-k.ensures, end_below _ _ _ _ c.requires.ends_in c.requires.table_value.1 c.link-k.ensures) in
+    let below : (c.link-k.result.start < c.args.l.nodes) × (c.link-k.result.end < c.args.l.nodes) = (start_below _ _ _ _ c.requires.ends_in c.requires.j_lt_links c.link-k.ensures, end_below _ _ _ _ c.requires.ends_in c.requires.j_lt_links c.link-k.ensures) in
     below.0
 
 pub is_enabled-requires-2-clause-laid : goal.is_enabled-requires-2-clause-laid
 is_enabled-requires-2-clause-laid c =
-    let below : (c.link-k.result.start < c.args.l.nodes) × (c.link-k.result.end < c.args.l.nodes) = (start_below _ _ _ _ c.requires.ends_in c.requires.table_value.1 c.link-k.ensures, end_below _ _ _ _ c.requires.ends_in c.requires.table_value.1 c.link-k.ensures) in
+    let below : (c.link-k.result.start < c.args.l.nodes) × (c.link-k.result.end < c.args.l.nodes) = (start_below _ _ _ _ c.requires.ends_in c.requires.j_lt_links c.link-k.ensures, end_below _ _ _ _ c.requires.ends_in c.requires.j_lt_links c.link-k.ensures) in
     c.requires.laid
 
 pub is_enabled-requires-2-clause-i_lt_nodes : goal.is_enabled-requires-2-clause-i_lt_nodes
 is_enabled-requires-2-clause-i_lt_nodes c =
-    let below : (c.link-k.result.start < c.args.l.nodes) × (c.link-k.result.end < c.args.l.nodes) = (start_below _ _ _ _ c.requires.ends_in c.requires.table_value.1 c.link-k.ensures, end_below _ _ _ _ c.requires.ends_in c.requires.table_value.1 c.link-k.ensures) in
+    let below : (c.link-k.result.start < c.args.l.nodes) × (c.link-k.result.end < c.args.l.nodes) = (start_below _ _ _ _ c.requires.ends_in c.requires.j_lt_links c.link-k.ensures, end_below _ _ _ _ c.requires.ends_in c.requires.j_lt_links c.link-k.ensures) in
     below.1
 
 pub coefficients_at-c-requires-clause-laid : goal.coefficients_at-c-requires-clause-laid
 coefficients_at-c-requires-clause-laid c =
-    let below : (c.link-k.result.start < c.args.l.nodes) × (c.link-k.result.end < c.args.l.nodes) = (start_below _ _ _ _ c.requires.ends_in c.requires.table_value.1 c.link-k.ensures, end_below _ _ _ _ c.requires.ends_in c.requires.table_value.1 c.link-k.ensures) in
+    let below : (c.link-k.result.start < c.args.l.nodes) × (c.link-k.result.end < c.args.l.nodes) = (start_below _ _ _ _ c.requires.ends_in c.requires.j_lt_links c.link-k.ensures, end_below _ _ _ _ c.requires.ends_in c.requires.j_lt_links c.link-k.ensures) in
     c.requires.laid
 
 pub coefficients_at-c-requires-clause-nodes_in_bounds : goal.coefficients_at-c-requires-clause-nodes_in_bounds
 coefficients_at-c-requires-clause-nodes_in_bounds c =
-    let below : (c.link-k.result.start < c.args.l.nodes) × (c.link-k.result.end < c.args.l.nodes) = (start_below _ _ _ _ c.requires.ends_in c.requires.table_value.1 c.link-k.ensures, end_below _ _ _ _ c.requires.ends_in c.requires.table_value.1 c.link-k.ensures) in
-    (c.requires.nodes_in_bounds.1.0, (omega (arith, c.requires.nodes_in_bounds.1.1.0, c.requires.table_value.1), omega (arith, c.requires.nodes_in_bounds.1.1.1, c.requires.table_value.1)))
+    let below : (c.link-k.result.start < c.args.l.nodes) × (c.link-k.result.end < c.args.l.nodes) = (start_below _ _ _ _ c.requires.ends_in c.requires.j_lt_links c.link-k.ensures, end_below _ _ _ _ c.requires.ends_in c.requires.j_lt_links c.link-k.ensures) in
+    (c.requires.nodes_in_bounds.1.0, (omega (arith, c.requires.nodes_in_bounds.1.1.0, c.requires.j_lt_links), omega (arith, c.requires.nodes_in_bounds.1.1.1, c.requires.j_lt_links)))
 
 pub coefficients_at-c-requires-clause-start_lt_nodes : goal.coefficients_at-c-requires-clause-start_lt_nodes
 coefficients_at-c-requires-clause-start_lt_nodes c =
-    let below : (c.link-k.result.start < c.args.l.nodes) × (c.link-k.result.end < c.args.l.nodes) = (start_below _ _ _ _ c.requires.ends_in c.requires.table_value.1 c.link-k.ensures, end_below _ _ _ _ c.requires.ends_in c.requires.table_value.1 c.link-k.ensures) in
+    let below : (c.link-k.result.start < c.args.l.nodes) × (c.link-k.result.end < c.args.l.nodes) = (start_below _ _ _ _ c.requires.ends_in c.requires.j_lt_links c.link-k.ensures, end_below _ _ _ _ c.requires.ends_in c.requires.j_lt_links c.link-k.ensures) in
     below
-
-pub coefficients_at-c-requires-clause-table_value : goal.coefficients_at-c-requires-clause-table_value
-coefficients_at-c-requires-clause-table_value c =
-    let below : (c.link-k.result.start < c.args.l.nodes) × (c.link-k.result.end < c.args.l.nodes) = (start_below _ _ _ _ c.requires.ends_in c.requires.table_value.1 c.link-k.ensures, end_below _ _ _ _ c.requires.ends_in c.requires.table_value.1 c.link-k.ensures) in
-    c.requires.table_value.0
 
 pub change_by-m-requires : goal.change_by-m-requires
 change_by-m-requires c =
-    let below : (c.link-k.result.start < c.args.l.nodes) × (c.link-k.result.end < c.args.l.nodes) = (start_below _ _ _ _ c.requires.ends_in c.requires.table_value.1 c.link-k.ensures, end_below _ _ _ _ c.requires.ends_in c.requires.table_value.1 c.link-k.ensures) in
+    let below : (c.link-k.result.start < c.args.l.nodes) × (c.link-k.result.end < c.args.l.nodes) = (start_below _ _ _ _ c.requires.ends_in c.requires.j_lt_links c.link-k.ensures, end_below _ _ _ _ c.requires.ends_in c.requires.j_lt_links c.link-k.ensures) in
     (omega (arith, c.requires.nodes_in_bounds.0, below.0), omega (arith, c.requires.nodes_in_bounds.0, below.1))
 
 pub returns-then-is_enabled : goal.returns-then-is_enabled

@@ -14,17 +14,17 @@ returns-then-a-ne0-clause-upper_bound c = omega (arith, c.head_lines-at.ensures.
 
 pub result_lines-requires-clause-nodes_bound : goal.result_lines-requires-clause-nodes_bound
 result_lines-requires-clause-nodes_bound c =
-    let l = network_of _ _ (sym c.read.ensures ∙ c.in-Good.is) in
+    let l = network_of _ _ (sym c.read.ensures ∙ c.in-Ok.is) in
     (omega (arith, l.nodes), omega (arith, l.links), omega arith, omega arith)
 
-pub returns-in-Good-clause-put : goal.returns-in-Good-clause-put
-returns-in-Good-clause-put c = told_all _ _ _ _ _ _ _ c.head_lines-at.ensures.put _ (sym c.read.ensures ∙ c.in-Good.is) c.if-a-ne0.false c.result_lines.ensures.put
+pub returns-in-Ok-clause-put : goal.returns-in-Ok-clause-put
+returns-in-Ok-clause-put c = told_all _ _ _ _ _ _ _ c.head_lines-at.ensures.put _ (sym c.read.ensures ∙ c.in-Ok.is) c.if-a-ne0.false c.result_lines.ensures.put
 
-pub returns-in-Good-clause-upper_bound : goal.returns-in-Good-clause-upper_bound
-returns-in-Good-clause-upper_bound c = c.result_lines.ensures.upper_bound
+pub returns-in-Ok-clause-upper_bound : goal.returns-in-Ok-clause-upper_bound
+returns-in-Ok-clause-upper_bound c = c.result_lines.ensures.upper_bound
 
-pub returns-in-Refused-clause-put : goal.returns-in-Refused-clause-put
-returns-in-Refused-clause-put c = told_unread _ _ _ _ _ _ _ c.head_lines-at.ensures.put _ (sym c.read.ensures ∙ c.in-Refused.is)
+pub returns-in-Err-clause-put : goal.returns-in-Err-clause-put
+returns-in-Err-clause-put c = told_unread _ _ _ _ _ _ _ c.head_lines-at.ensures.put _ (sym c.read.ensures ∙ c.in-Err.is)
 
-pub returns-in-Refused-clause-upper_bound : goal.returns-in-Refused-clause-upper_bound
-returns-in-Refused-clause-upper_bound c = omega (arith, c.head_lines-at.ensures.upper_bound)
+pub returns-in-Err-clause-upper_bound : goal.returns-in-Err-clause-upper_bound
+returns-in-Err-clause-upper_bound c = omega (arith, c.head_lines-at.ensures.upper_bound)

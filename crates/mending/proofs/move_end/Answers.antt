@@ -1,9 +1,7 @@
 -- `mending::move_end` meets its contract. Assumes nothing.
-use borrow.Author.Rules.{rules}
 use native.Mathlib.Omega.{arith}
 use Prim.Native.Nat.{◌<◌}
 use mathlib.Core.Path.{refl}
-use borrow.Author.Rules.{rules}
 use Rattle.touching.specs.Touching.{in_column}
 use Rattle.mending.proofs.Mended.{seekable, end_stays, on_fits, on_some, on-mended, back_fits, back_some, back-mended, more_than}
 use Rattle.mending.proofs.move_end.Goals as goal

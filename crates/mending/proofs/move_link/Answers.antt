@@ -1,8 +1,6 @@
 -- `mending::move_link` meets its contract. Assumes nothing.
-use borrow.Author.Rules.{rules}
 use native.Mathlib.Omega.{arith}
 use mathlib.Core.Path.{sym, ◌∙◌}
-use borrow.Author.Rules.{rules}
 use Rattle.touching.specs.Touching.{in_column}
 use Rattle.mending.proofs.Mended.{first_goes, second-right, second-goes, both-mended, crossed_mended, set_twice, crossed_free, uncrossed_free, places_made, listed_made}
 use Rattle.mending.proofs.move_link.Goals as goal

@@ -1,7 +1,6 @@
 -- `mending::place_less` meets its contract. Assumes nothing.
 use native.Mathlib.Omega.{arith}
-use Prim.Native.Nat.{◌+◌, ◌-◌}
-use Rattle.mending.proofs.Loops.{Lessening, lessening_none, lessening_next, lessened}
+use Rattle.mending.proofs.Loops.{lessening_none, lessening_next, lessened}
 use Rattle.mending.proofs.place_less.Goals as goal
 
 pub loop-i-init : goal.loop-i-init

@@ -1,7 +1,6 @@
 -- `mending::place_more` meets its contract. Assumes nothing.
 use native.Mathlib.Omega.{arith}
-use Prim.Native.Nat.{◌+◌, ◌-◌}
-use Rattle.mending.proofs.Loops.{Rising, rising_none, rising_next, risen}
+use Rattle.mending.proofs.Loops.{rising_none, rising_next, risen}
 use Rattle.mending.proofs.place_more.Goals as goal
 
 pub loop-i-init : goal.loop-i-init

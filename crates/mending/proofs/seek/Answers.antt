@@ -1,8 +1,6 @@
 -- `mending::seek` meets its contract. Assumes nothing.
 use native.Mathlib.Omega.{arith}
-use Prim.Native.Nat.{ℕ, ◌-◌, ◌≤◌, ◌<◌}
 use mathlib.Core.Path.{◌≡◌}
-use lib.ListN.{get_or}
 use Rattle.touching.proofs.Laws.{below_or}
 use Rattle.mending.proofs.seek.Goals as goal
 

@@ -1,10 +1,9 @@
 -- `numbering::number_unknowns` meets its contract: after i nodes the column holds the numbers of the first i. Assumes nothing.
 use mathlib.Core.Path.{◌≡◌, sym, ap, ◌∙◌}
-use Prim.Native.Nat.{ℕ, ◌+◌, ◌-◌}
+use Prim.Native.Nat.{ℕ}
 use native.Mathlib.Omega.{arith}
-use borrow.Author.Rules.{rules}
 use Rattle.numbering.specs.Numbering.{numbered}
-use Rattle.numbering.proofs.Numbers.{Numbered, start, room, after-in, after-out}
+use Rattle.numbering.proofs.Numbers.{start, room, after-in, after-out}
 use Rattle.numbering.proofs.number_unknowns.Goals as goal
 use Rattle.numbering.proofs.number_unknowns.Goals.{then-in_service, else-in_service}
 

@@ -1,6 +1,5 @@
 -- `numbering::unknown_of` meets its contract. Assumes nothing.
 use lib.ListN.{get_or}
-use borrow.Author.Rules.{rules}
 use borrow.Author.Tests.{eq-eqb, ne_eqb}
 use Rattle.numbering.specs.Numbering.{no_unknown, row_of}
 use Rattle.numbering.proofs.unknown_of.Goals as goal

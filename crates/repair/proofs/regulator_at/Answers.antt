@@ -1,13 +1,6 @@
-use borrow.Author.Rules.{rules}
 use native.Mathlib.Omega.{arith}
-use Prim.Native.Nat.{ℕ, suc, ◌+◌, ◌*◌, ◌-◌, ◌≤◌, ◌<◌}
-use mathlib.Core.Path.{◌≡◌, refl, sym, ap, ◌∙◌}
-use native.Mathlib.Numerals.{add-one}
-use lib.ListN.{length, get_or, set, length-set}
-use Rattle.links.specs.Links.{link_start, link_end}
-use Rattle.touching.specs.Touching.{touching_at}
-use Rattle.touching.proofs.Walk.{left_from, ends_behind, ends_within, all_left, none_left, link_in, link-touches, next-left}
-use Rattle.repair.specs.Repair.{regulator_at}
+use mathlib.Core.Path.{sym, ap, ◌∙◌}
+use Rattle.touching.proofs.Walk.{ends_within, all_left, none_left, link_in, link-touches, next-left}
 use Rattle.repair.proofs.Laws.{first_in, regulates_touching, regulator_touching, regulator_next, regulator_found, regulator_none}
 use Rattle.repair.proofs.regulator_at.Goals as goal
 

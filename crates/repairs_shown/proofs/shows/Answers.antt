@@ -1,5 +1,4 @@
 -- `repairs_shown::shows` meets its contract. Assumes nothing.
-use borrow.Author.Rules.{rules}
 use mathlib.Core.Path.{refl}
 use Rattle.repairs_shown.specs.Shown.{shows}
 use Rattle.repairs_shown.proofs.shows.Goals as goal

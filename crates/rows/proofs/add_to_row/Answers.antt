@@ -8,7 +8,7 @@ pub returns-in_default : goal.returns-in_default
 returns-in_default c = row_none _ _ _ c.in_default.is
 
 pub add_to-requires : goal.add_to-requires
-add_to-requires c = omega (arith, c.requires.row_below.below _ c.in-Unknown.is)
+add_to-requires c = omega (arith, c.requires.row_below.below _ c.in-Some.is)
 
 pub returns : goal.returns
-returns c = row-some _ _ _ _ _ c.in-Unknown.is c.add_to.ensures
+returns c = row-some _ _ _ _ _ c.in-Some.is c.add_to.ensures

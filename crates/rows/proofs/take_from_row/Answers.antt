@@ -8,7 +8,7 @@ pub returns-in_default : goal.returns-in_default
 returns-in_default c = off_row_none _ _ _ c.in_default.is
 
 pub take_from-requires : goal.take_from-requires
-take_from-requires c = omega (arith, c.requires.row_below.below _ c.in-Unknown.is)
+take_from-requires c = omega (arith, c.requires.row_below.below _ c.in-Some.is)
 
 pub returns : goal.returns
-returns c = off-row-some _ _ _ _ _ c.in-Unknown.is c.take_from.ensures
+returns c = off-row-some _ _ _ _ _ c.in-Some.is c.take_from.ensures

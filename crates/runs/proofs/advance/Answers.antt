@@ -22,9 +22,6 @@ trial-e-requires-clause-links_at c = c.requires.links_at
 pub trial-e-requires-clause-nodes_in_bounds : goal.trial-e-requires-clause-nodes_in_bounds
 trial-e-requires-clause-nodes_in_bounds c = c.requires.nodes_in_bounds
 
-pub trial-e-requires-clause-table_value : goal.trial-e-requires-clause-table_value
-trial-e-requires-clause-table_value c = c.requires.table_value
-
 pub trial-e-requires-clause-room : goal.trial-e-requires-clause-room
 trial-e-requires-clause-room c = c.requires.room
 

@@ -28,9 +28,6 @@ advance-turn-requires-clause-links_at c = c.requires.links_at
 pub advance-turn-requires-clause-nodes_in_bounds : goal.advance-turn-requires-clause-nodes_in_bounds
 advance-turn-requires-clause-nodes_in_bounds c = c.requires.nodes_in_bounds
 
-pub advance-turn-requires-clause-table_value : goal.advance-turn-requires-clause-table_value
-advance-turn-requires-clause-table_value c = c.requires.table_value
-
 pub advance-turn-requires-clause-room : goal.advance-turn-requires-clause-room
 advance-turn-requires-clause-room c = kept_room _ _ _ _ _ _ _ c.loop-tally.invariant.0 c.requires.room
 
@@ -63,12 +60,12 @@ loop-tally-preserved c =
       omega (arith, c.loop-tally-test.true, n),
       omega (arith, n, c.loop-tally.invariant.2),
       omega (arith, n, c.loop-tally.invariant.3),
-      run_on _ _ _ _ _ _ _ _ _ _ c.loop-tally-test.true c.advance-turn.ensures.turn c.in-On.is ∙ c.loop-tally.invariant.4,
+      run_on _ _ _ _ _ _ _ _ _ _ c.loop-tally-test.true c.advance-turn.ensures.turn c.in-Continue.is ∙ c.loop-tally.invariant.4,
       c.advance-turn.ensures.cleared,
     )
 
-pub shape_of-heads-in-Over : goal.shape_of-heads-in-Over
-shape_of-heads-in-Over c =
+pub shape_of-heads-in-Break : goal.shape_of-heads-in-Break
+shape_of-heads-in-Break c =
     let kept_on : Kept (state c.args.heads.now c.args.demands.now c.args.drawn.now c.args.flows.now c.args.statuses.now c.args.grounded.now) (state c.advance-turn.new.heads c.advance-turn.new.demands c.advance-turn.new.drawn c.advance-turn.new.flows c.advance-turn.new.statuses c.advance-turn.new.grounded) c.args.entries.now c.advance-turn.new.entries c.clear.new.x c.advance-turn.new.scratch = record {
       heads = c.advance-turn.auto.heads ∙ c.loop-tally.invariant.0.heads;
       demands = c.advance-turn.auto.demands ∙ c.loop-tally.invariant.0.demands;
@@ -81,8 +78,8 @@ shape_of-heads-in-Over c =
     } in
     kept_on.heads
 
-pub shape_of-demands-in-Over : goal.shape_of-demands-in-Over
-shape_of-demands-in-Over c =
+pub shape_of-demands-in-Break : goal.shape_of-demands-in-Break
+shape_of-demands-in-Break c =
     let kept_on : Kept (state c.args.heads.now c.args.demands.now c.args.drawn.now c.args.flows.now c.args.statuses.now c.args.grounded.now) (state c.advance-turn.new.heads c.advance-turn.new.demands c.advance-turn.new.drawn c.advance-turn.new.flows c.advance-turn.new.statuses c.advance-turn.new.grounded) c.args.entries.now c.advance-turn.new.entries c.clear.new.x c.advance-turn.new.scratch = record {
       heads = c.advance-turn.auto.heads ∙ c.loop-tally.invariant.0.heads;
       demands = c.advance-turn.auto.demands ∙ c.loop-tally.invariant.0.demands;
@@ -95,8 +92,8 @@ shape_of-demands-in-Over c =
     } in
     kept_on.demands
 
-pub shape_of-drawn-in-Over : goal.shape_of-drawn-in-Over
-shape_of-drawn-in-Over c =
+pub shape_of-drawn-in-Break : goal.shape_of-drawn-in-Break
+shape_of-drawn-in-Break c =
     let kept_on : Kept (state c.args.heads.now c.args.demands.now c.args.drawn.now c.args.flows.now c.args.statuses.now c.args.grounded.now) (state c.advance-turn.new.heads c.advance-turn.new.demands c.advance-turn.new.drawn c.advance-turn.new.flows c.advance-turn.new.statuses c.advance-turn.new.grounded) c.args.entries.now c.advance-turn.new.entries c.clear.new.x c.advance-turn.new.scratch = record {
       heads = c.advance-turn.auto.heads ∙ c.loop-tally.invariant.0.heads;
       demands = c.advance-turn.auto.demands ∙ c.loop-tally.invariant.0.demands;
@@ -109,8 +106,8 @@ shape_of-drawn-in-Over c =
     } in
     kept_on.drawn
 
-pub shape_of-flows-in-Over : goal.shape_of-flows-in-Over
-shape_of-flows-in-Over c =
+pub shape_of-flows-in-Break : goal.shape_of-flows-in-Break
+shape_of-flows-in-Break c =
     let kept_on : Kept (state c.args.heads.now c.args.demands.now c.args.drawn.now c.args.flows.now c.args.statuses.now c.args.grounded.now) (state c.advance-turn.new.heads c.advance-turn.new.demands c.advance-turn.new.drawn c.advance-turn.new.flows c.advance-turn.new.statuses c.advance-turn.new.grounded) c.args.entries.now c.advance-turn.new.entries c.clear.new.x c.advance-turn.new.scratch = record {
       heads = c.advance-turn.auto.heads ∙ c.loop-tally.invariant.0.heads;
       demands = c.advance-turn.auto.demands ∙ c.loop-tally.invariant.0.demands;
@@ -123,8 +120,8 @@ shape_of-flows-in-Over c =
     } in
     kept_on.flows
 
-pub shape_of-statuses-in-Over : goal.shape_of-statuses-in-Over
-shape_of-statuses-in-Over c =
+pub shape_of-statuses-in-Break : goal.shape_of-statuses-in-Break
+shape_of-statuses-in-Break c =
     let kept_on : Kept (state c.args.heads.now c.args.demands.now c.args.drawn.now c.args.flows.now c.args.statuses.now c.args.grounded.now) (state c.advance-turn.new.heads c.advance-turn.new.demands c.advance-turn.new.drawn c.advance-turn.new.flows c.advance-turn.new.statuses c.advance-turn.new.grounded) c.args.entries.now c.advance-turn.new.entries c.clear.new.x c.advance-turn.new.scratch = record {
       heads = c.advance-turn.auto.heads ∙ c.loop-tally.invariant.0.heads;
       demands = c.advance-turn.auto.demands ∙ c.loop-tally.invariant.0.demands;
@@ -137,8 +134,8 @@ shape_of-statuses-in-Over c =
     } in
     kept_on.statuses
 
-pub shape_of-grounded-in-Over : goal.shape_of-grounded-in-Over
-shape_of-grounded-in-Over c =
+pub shape_of-grounded-in-Break : goal.shape_of-grounded-in-Break
+shape_of-grounded-in-Break c =
     let kept_on : Kept (state c.args.heads.now c.args.demands.now c.args.drawn.now c.args.flows.now c.args.statuses.now c.args.grounded.now) (state c.advance-turn.new.heads c.advance-turn.new.demands c.advance-turn.new.drawn c.advance-turn.new.flows c.advance-turn.new.statuses c.advance-turn.new.grounded) c.args.entries.now c.advance-turn.new.entries c.clear.new.x c.advance-turn.new.scratch = record {
       heads = c.advance-turn.auto.heads ∙ c.loop-tally.invariant.0.heads;
       demands = c.advance-turn.auto.demands ∙ c.loop-tally.invariant.0.demands;
@@ -151,8 +148,8 @@ shape_of-grounded-in-Over c =
     } in
     kept_on.grounded
 
-pub shape_of-entries-in-Over : goal.shape_of-entries-in-Over
-shape_of-entries-in-Over c =
+pub shape_of-entries-in-Break : goal.shape_of-entries-in-Break
+shape_of-entries-in-Break c =
     let kept_on : Kept (state c.args.heads.now c.args.demands.now c.args.drawn.now c.args.flows.now c.args.statuses.now c.args.grounded.now) (state c.advance-turn.new.heads c.advance-turn.new.demands c.advance-turn.new.drawn c.advance-turn.new.flows c.advance-turn.new.statuses c.advance-turn.new.grounded) c.args.entries.now c.advance-turn.new.entries c.clear.new.x c.advance-turn.new.scratch = record {
       heads = c.advance-turn.auto.heads ∙ c.loop-tally.invariant.0.heads;
       demands = c.advance-turn.auto.demands ∙ c.loop-tally.invariant.0.demands;
@@ -165,8 +162,8 @@ shape_of-entries-in-Over c =
     } in
     kept_on.entries
 
-pub shape_of-scratch-in-Over : goal.shape_of-scratch-in-Over
-shape_of-scratch-in-Over c =
+pub shape_of-scratch-in-Break : goal.shape_of-scratch-in-Break
+shape_of-scratch-in-Break c =
     let kept_on : Kept (state c.args.heads.now c.args.demands.now c.args.drawn.now c.args.flows.now c.args.statuses.now c.args.grounded.now) (state c.advance-turn.new.heads c.advance-turn.new.demands c.advance-turn.new.drawn c.advance-turn.new.flows c.advance-turn.new.statuses c.advance-turn.new.grounded) c.args.entries.now c.advance-turn.new.entries c.clear.new.x c.advance-turn.new.scratch = record {
       heads = c.advance-turn.auto.heads ∙ c.loop-tally.invariant.0.heads;
       demands = c.advance-turn.auto.demands ∙ c.loop-tally.invariant.0.demands;
@@ -179,11 +176,11 @@ shape_of-scratch-in-Over c =
     } in
     kept_on.scratch ∙ c.clear.auto.x
 
-pub returns-in-Over-clause-state : goal.returns-in-Over-clause-state
-returns-in-Over-clause-state c = run_over _ _ _ _ _ _ _ _ _ _ c.loop-tally-test.true c.advance-turn.ensures.turn c.in-Over.is ∙ c.loop-tally.invariant.4
+pub returns-in-Break-clause-state : goal.returns-in-Break-clause-state
+returns-in-Break-clause-state c = run_over _ _ _ _ _ _ _ _ _ _ c.loop-tally-test.true c.advance-turn.ensures.turn c.in-Break.is ∙ c.loop-tally.invariant.4
 
-pub returns-in-Over-clause-cleared : goal.returns-in-Over-clause-cleared
-returns-in-Over-clause-cleared c = c.advance-turn.ensures.cleared
+pub returns-in-Break-clause-cleared : goal.returns-in-Break-clause-cleared
+returns-in-Break-clause-cleared c = c.advance-turn.ensures.cleared
 
 pub shape_of-heads : goal.shape_of-heads
 shape_of-heads c = c.loop-tally.invariant.0.heads

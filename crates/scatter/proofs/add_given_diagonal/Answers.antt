@@ -3,8 +3,8 @@ use Rattle.scatter.proofs.Placing.{absent_diagonal, given_diagonal_lem}
 use borrow.Author.Rules.{rules}
 use Rattle.scatter.proofs.add_given_diagonal.Goals as goal
 
-pub returns-then-addition : goal.returns-then-addition
-returns-then-addition c = given_diagonal_lem _ _ _ _ c.if-addition.true c.add_to_diagonal.ensures
+pub returns-in-Some : goal.returns-in-Some
+returns-in-Some c = given_diagonal_lem _ _ _ _ _ c.in-Some.is c.add_to_diagonal.ensures
 
-pub returns-else-addition : goal.returns-else-addition
-returns-else-addition c = absent_diagonal _ _ _ c.if-addition.false
+pub returns-in_default : goal.returns-in_default
+returns-in_default c = absent_diagonal _ _ _ c.in_default.is

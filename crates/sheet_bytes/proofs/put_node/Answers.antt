@@ -10,7 +10,7 @@ use Rattle.sheet_bytes.proofs.put_node.Goals as goal
 pub returns-clause-put : goal.returns-clause-put
 unfolding node_bytes bytes_of
 returns-clause-put c =
-    let kind = then c.put_text-p.ensures.put (as_byte c.node_code.ensures c.put_byte-p.ensures.put) in
+    let kind = then c.put_text-p.ensures.put (as_byte c.from.ensures c.put_byte-p.ensures.put) in
     let disabled = then kind (as_byte c.flag_byte.ensures c.put_byte-p-2.ensures.put) in
     let numbers = one_by_one _ _ _ _ _ disabled c.put_five-p.ensures.put in
     then numbers (as_byte c.flag_byte-2.ensures c.put_byte.ensures.put)

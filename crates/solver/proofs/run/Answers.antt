@@ -63,12 +63,6 @@ run_trials-requires-clause-nodes_in_bounds c =
       subst (λ (x : List ℕ). RowsRight c.args.l c.args.sheet.now x) (sym c.number_unknowns.ensures) (rows_right c.args.sheet.now c.args.l _ (omega (arith, net.nodes)) (omega (arith, net.nodes))),
     )
 
-pub run_trials-requires-clause-table_value : goal.run_trials-requires-clause-table_value
-run_trials-requires-clause-table_value c =
-    let net = network_of _ _ c.requires.sheet_value in
-    let few = few_trials _ _ c.requires.sheet_value in
-    c.requires.table_value
-
 pub run_trials-requires-clause-room : goal.run_trials-requires-clause-room
 run_trials-requires-clause-room c =
     let net = network_of _ _ c.requires.sheet_value in

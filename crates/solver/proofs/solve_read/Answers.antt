@@ -21,13 +21,10 @@ pub solved-requires-clause-trials_value : goal.solved-requires-clause-trials_val
 solved-requires-clause-trials_value c = ap (λ (x : Options). x.trials) c.options_of-options.ensures
 
 pub solved-requires-clause-enough : goal.solved-requires-clause-enough
-solved-requires-clause-enough c = enough _ _ _ (sym c.too_short.ensures ∙ c.in-Nothing.is)
+solved-requires-clause-enough c = enough _ _ _ (sym c.too_short.ensures ∙ c.in-None.is)
 
-pub solved-requires-clause-table_value : goal.solved-requires-clause-table_value
-solved-requires-clause-table_value c = c.requires.table_value
+pub returns-in-Some : goal.returns-in-Some
+returns-in-Some c = solve_short _ _ _ _ _ _ (ap (λ (x : Options). x.trials) c.options_of-options.ensures) c.too_short.ensures _ _ c.in-Some.is c.refused.ensures
 
-pub returns-in-At : goal.returns-in-At
-returns-in-At c = solve_short _ _ _ _ _ _ (ap (λ (x : Options). x.trials) c.options_of-options.ensures) c.too_short.ensures _ _ c.in-At.is c.refused.ensures
-
-pub returns-in-Nothing : goal.returns-in-Nothing
-returns-in-Nothing c = solve_runs _ _ _ _ _ _ (ap (λ (x : Options). x.trials) c.options_of-options.ensures) c.too_short.ensures _ c.in-Nothing.is c.solved.ensures
+pub returns-in-None : goal.returns-in-None
+returns-in-None c = solve_runs _ _ _ _ _ _ (ap (λ (x : Options). x.trials) c.options_of-options.ensures) c.too_short.ensures _ c.in-None.is c.solved.ensures

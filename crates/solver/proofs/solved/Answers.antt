@@ -100,14 +100,6 @@ run-ran-requires-clause-trials_in_bounds c =
     let k = full_of in
     (c.requires.enough.entries, c.requires.enough.scratch)
 
-pub run-ran-requires-clause-table_value : goal.run-ran-requires-clause-table_value
-run-ran-requires-clause-table_value c =
-    let first_of : State = state c.start_columns.new.heads c.start_columns.new.demands c.start_columns.new.drawn c.start_columns.new.flows c.start_columns.new.statuses (replicate 64 false) in
-    let full_of : Full first_of = full first_of _ c.start_columns.ensures (start_full _ _) in
-    let net = network_of _ _ c.requires.sheet_value in
-    let k = full_of in
-    c.requires.table_value
-
 pub conclude-requires-clause-laid : goal.conclude-requires-clause-laid
 conclude-requires-clause-laid c =
     let first_of : State = state c.start_columns.new.heads c.start_columns.new.demands c.start_columns.new.drawn c.start_columns.new.flows c.start_columns.new.statuses (replicate 64 false) in

@@ -1,11 +1,8 @@
 -- `spelled::spells` meets its contract. Assumes nothing.
 use mathlib.Core.Path.{sym, ◌∙◌}
-use Prim.Native.Nat.{◌-◌}
 use native.Mathlib.Omega.{arith}
-use borrow.Author.Rules.{rules}
-use lib.ListN.{length}
 use Rattle.spelled.specs.Spelled.{capital_of, spelled_as}
-use Rattle.spelled.proofs.Agree.{Passed, other_length, first, next, differs, ended}
+use Rattle.spelled.proofs.Agree.{other_length, first, next, differs, ended}
 use Rattle.spelled.proofs.spells.Goals as goal
 
 pub returns-then-word-keyword : goal.returns-then-word-keyword

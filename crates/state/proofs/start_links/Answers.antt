@@ -1,8 +1,8 @@
 -- `state::start_links` meets its contract. Assumes nothing.
-use Rattle.state.proofs.Turns.{Links, no_links, next_link}
+use Rattle.state.proofs.Turns.{no_links, next_link}
 use Rattle.state.specs.State.{flows_from, codes_from}
 use native.Mathlib.Omega.{arith}
-use Prim.Native.Nat.{ℕ, ◌-◌}
+use Prim.Native.Nat.{ℕ}
 use mathlib.Core.Path.{◌≡◌, ap, ◌∙◌}
 use Rattle.state.proofs.start_links.Goals as goal
 

@@ -1,9 +1,6 @@
 -- `state::start_links` meets its contract. Assumes nothing.
-use Rattle.state.proofs.Turns.{Links, no_links, next_link}
-use Rattle.state.specs.State.{flows_from, codes_from}
-use native.Mathlib.Omega.{arith}
-use Prim.Native.Nat.{ℕ, ◌-◌}
-use mathlib.Core.Path.{◌≡◌, ap, ◌∙◌}
+use Rattle.state.proofs.Turns.{Links}
+use Prim.Native.Nat.{◌-◌}
 use Rattle.state.proofs.start_links.Given as goal
 
 abbrev pub invariant-loop-j : goal.invariant-loop-j

@@ -1,8 +1,8 @@
 -- `state::start_nodes` meets its contract. Assumes nothing.
-use Rattle.state.proofs.Turns.{Nodes, no_nodes, next_node}
+use Rattle.state.proofs.Turns.{no_nodes, next_node}
 use Rattle.state.specs.State.{heads_from, demands_from}
 use native.Mathlib.Omega.{arith}
-use Prim.Native.Nat.{ℕ, ◌-◌}
+use Prim.Native.Nat.{ℕ}
 use mathlib.Core.Path.{◌≡◌, ap, ◌∙◌}
 use Rattle.state.proofs.start_nodes.Goals as goal
 

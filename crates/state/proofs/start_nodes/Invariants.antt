@@ -1,9 +1,6 @@
 -- `state::start_nodes` meets its contract. Assumes nothing.
-use Rattle.state.proofs.Turns.{Nodes, no_nodes, next_node}
-use Rattle.state.specs.State.{heads_from, demands_from}
-use native.Mathlib.Omega.{arith}
-use Prim.Native.Nat.{ℕ, ◌-◌}
-use mathlib.Core.Path.{◌≡◌, ap, ◌∙◌}
+use Rattle.state.proofs.Turns.{Nodes}
+use Prim.Native.Nat.{◌-◌}
 use Rattle.state.proofs.start_nodes.Given as goal
 
 abbrev pub invariant-loop-i : goal.invariant-loop-i

@@ -3,11 +3,11 @@ use mathlib.Core.Path.{◌≡◌, refl}
 use mathlib.Core.List.{[], ◌∷◌}
 use Rattle.status.specs.Rules.{pipe_status}
 use Rattle.codes.specs.Codes.{status_of}
-use Rattle.status.specs.declared.Change.TheVariants.{Stays}
 use Rattle.codes.specs.declared.Status.{Status}
 use Rattle.status.proofs.Cases.{of_status}
 use borrow.Author.Rules.{rules}
 use Rattle.status.proofs.pipe_status.Goals as goal
+use Rattle.std.specs.Prelude.{None}
 
 pub returns-in-TempClosed : goal.returns-in-TempClosed
 unfolding pipe_status status_of

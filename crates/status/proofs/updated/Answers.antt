@@ -3,11 +3,11 @@ use mathlib.Core.Path.{◌≡◌, refl}
 use mathlib.Core.List.{[], ◌∷◌}
 use Rattle.status.specs.Rules.{updated_of}
 use Rattle.codes.specs.Codes.{link_kind_of}
-use Rattle.status.specs.declared.Change.TheVariants.{Stays}
 use Rattle.codes.specs.declared.LinkKind.{LinkKind}
 use Rattle.status.proofs.Cases.{of_kind}
 use borrow.Author.Rules.{rules}
 use Rattle.status.proofs.updated.Goals as goal
+use Rattle.std.specs.Prelude.{None}
 
 pub returns-in-Pipe : goal.returns-in-Pipe
 unfolding updated_of

@@ -45,20 +45,20 @@ wild_place-requires-clause-nodes_in_bounds c = (omega (arith, c.requires.room.he
 pub options_of-requires : goal.options_of-requires
 options_of-requires c = options_within _ _ c.requires.network.laid
 
-pub shape_of-heads-in-At : goal.shape_of-heads-in-At
-shape_of-heads-in-At c = c.put_heads.auto.heads
+pub shape_of-heads-in-Some : goal.shape_of-heads-in-Some
+shape_of-heads-in-Some c = c.put_heads.auto.heads
 
-pub returns-in-At : goal.returns-in-At
-returns-in-At c = step_of_lem _ _ _ _ _ _ _ _ _ _ _ _ _ _ _ _ c.put_heads.ensures c.update_links-updated.ensures c.tank_links.ensures c.update_drawn-stats.ensures (entry_wild _ _ _ _ _ _ (sym c.wild_place.ensures ∙ c.in-At.is))
+pub returns-in-Some : goal.returns-in-Some
+returns-in-Some c = step_of_lem _ _ _ _ _ _ _ _ _ _ _ _ _ _ _ _ c.put_heads.ensures c.update_links-updated.ensures c.tank_links.ensures c.update_drawn-stats.ensures (entry_wild _ _ _ _ _ _ (sym c.wild_place.ensures ∙ c.in-Some.is))
 
-pub shape_of-heads-in-Nothing : goal.shape_of-heads-in-Nothing
-shape_of-heads-in-Nothing c = c.put_heads.auto.heads
+pub shape_of-heads-in-None : goal.shape_of-heads-in-None
+shape_of-heads-in-None c = c.put_heads.auto.heads
 
-pub shape_of-flows-in-Nothing : goal.shape_of-flows-in-Nothing
-shape_of-flows-in-Nothing c = c.update_links-updated.auto.flows
+pub shape_of-flows-in-None : goal.shape_of-flows-in-None
+shape_of-flows-in-None c = c.update_links-updated.auto.flows
 
-pub shape_of-statuses-in-Nothing : goal.shape_of-statuses-in-Nothing
-shape_of-statuses-in-Nothing c = c.tank_links.auto.statuses ∙ c.update_links-updated.auto.statuses
+pub shape_of-statuses-in-None : goal.shape_of-statuses-in-None
+shape_of-statuses-in-None c = c.tank_links.auto.statuses ∙ c.update_links-updated.auto.statuses
 
-pub returns-in-Nothing : goal.returns-in-Nothing
-returns-in-Nothing c = step_of_lem _ _ _ _ _ _ _ _ _ _ _ _ _ _ _ _ c.put_heads.ensures c.update_links-updated.ensures c.tank_links.ensures c.update_drawn-stats.ensures (entry_judged _ _ _ _ _ _ _ (sym c.wild_place.ensures ∙ c.in-Nothing.is) c.options_of.ensures c.judge.ensures)
+pub returns-in-None : goal.returns-in-None
+returns-in-None c = step_of_lem _ _ _ _ _ _ _ _ _ _ _ _ _ _ _ _ c.put_heads.ensures c.update_links-updated.ensures c.tank_links.ensures c.update_drawn-stats.ensures (entry_judged _ _ _ _ _ _ _ (sym c.wild_place.ensures ∙ c.in-None.is) c.options_of.ensures c.judge.ensures)

@@ -75,23 +75,23 @@ conclude-a-requires-clause-nodes_in_bounds_2 c =
       omega (arith, net.links, c.told-c, c.next_turn-turn.auto.c),
     )
 
-pub returns-in-On : goal.returns-in-On
-returns-in-On c =
+pub returns-in-Continue : goal.returns-in-Continue
+returns-in-Continue c =
     took_more repair_of c.args.sheet.now c.args.l c.args.trials (held c.args.h.now c.args.d.now c.args.f.now c.args.q.now c.args.c.now c.args.z.now c.args.sums.now c.args.counts.now) (lent c.args.heads.now c.args.demands.now c.args.flows.now c.args.statuses.now c.args.entries.now c.args.scratch.now)
     _ _ _ _ _ c.requires.trials_value c.damping_in-damping.ensures c.tally_in-tally.ensures c.marks_in-marks.ensures c.next_turn-turn.ensures.turn c.follows.ensures
-    _ _ _ _ _ _ _ c.in-On.is c.marks_out.ensures c.more.ensures c.keep.ensures.sums c.keep.ensures.counts c.keep.ensures.told c.next_turn-turn.ensures.cleared
+    _ _ _ _ _ _ _ c.in-Continue.is c.marks_out.ensures c.more.ensures c.keep.ensures.sums c.keep.ensures.counts c.keep.ensures.told c.next_turn-turn.ensures.cleared
 
-pub shape_of-entries-in-Over : goal.shape_of-entries-in-Over
-shape_of-entries-in-Over c = c.next_turn-turn.auto.entries
+pub shape_of-entries-in-Break : goal.shape_of-entries-in-Break
+shape_of-entries-in-Break c = c.next_turn-turn.auto.entries
 
-pub shape_of-scratch-in-Over : goal.shape_of-scratch-in-Over
-shape_of-scratch-in-Over c = length_front c.args.scratch.now c.next_turn-turn.new.scratch 4096 c.next_turn-turn.auto.scratch
+pub shape_of-scratch-in-Break : goal.shape_of-scratch-in-Break
+shape_of-scratch-in-Break c = length_front c.args.scratch.now c.next_turn-turn.new.scratch 4096 c.next_turn-turn.auto.scratch
 
-pub returns-in-Over : goal.returns-in-Over
-returns-in-Over c =
+pub returns-in-Break : goal.returns-in-Break
+returns-in-Break c =
     let out : List Float → Solved = λ x. record { answer = c.conclude-a.result; lent = lent c.conclude-a.new.heads c.conclude-a.new.demands c.conclude-a.new.flows c.conclude-a.new.statuses c.next_turn-turn.new.entries x } in
     took_answer repair_of c.args.sheet.now c.args.l c.args.trials (held c.args.h.now c.args.d.now c.args.f.now c.args.q.now c.args.c.now c.args.z.now c.args.sums.now c.args.counts.now) (lent c.args.heads.now c.args.demands.now c.args.flows.now c.args.statuses.now c.args.entries.now c.args.scratch.now)
     _ _ _ _ _ c.requires.trials_value c.damping_in-damping.ensures c.tally_in-tally.ensures c.marks_in-marks.ensures c.next_turn-turn.ensures.turn c.follows.ensures
-    _ (out _) _ _ _ _ _ c.in-Over.is c.marks_out.ensures
+    _ (out _) _ _ _ _ _ c.in-Break.is c.marks_out.ensures
     (ap out (emptied_part _ c.args.scratch.now c.next_turn-turn.ensures.cleared) ∙ c.conclude-a.ensures c.next_turn-turn.new.z c.next_turn-turn.new.entries c.args.entries.now c.args.scratch.now)
-    refl c.keep-in-Over.ensures.sums c.keep-in-Over.ensures.counts c.keep-in-Over.ensures.told
+    refl c.keep-in-Break.ensures.sums c.keep-in-Break.ensures.counts c.keep-in-Break.ensures.told

@@ -1,6 +1,5 @@
 -- `tanks::is_empty` meets its contract. Assumes nothing.
 use Rattle.tanks.proofs.Turns.{empty_of}
-use borrow.Author.Rules.{rules}
 use Rattle.tanks.proofs.is_empty.Goals as goal
 
 pub returns : goal.returns

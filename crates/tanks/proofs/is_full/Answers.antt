@@ -1,6 +1,5 @@
 -- `tanks::is_full` meets its contract. Assumes nothing.
 use Rattle.tanks.proofs.Turns.{full_of}
-use borrow.Author.Rules.{rules}
 use Rattle.tanks.proofs.is_full.Goals as goal
 
 pub returns : goal.returns

@@ -1,17 +1,10 @@
-use borrow.Author.Rules.{rules}
-use native.Mathlib.Omega.{arith}
-use Prim.Native.Nat.{ℕ, suc, ◌+◌, ◌*◌, ◌-◌, ◌≤◌, ◌<◌}
-use mathlib.Core.Path.{◌≡◌, refl, sym, ap, ◌∙◌}
-use native.Mathlib.Numerals.{add-one}
-use lib.ListN.{length, get_or, set, length-set}
-use mathlib.Core.List.{List}
-use mathlib.Core.Logic.{⊎_elim}
+use Prim.Native.Nat.{◌-◌}
+use lib.ListN.{get_or}
 use Rattle.links.specs.Links.{link_start, link_end}
 use Rattle.columns.specs.Columns.{add_to}
 use Rattle.touching.specs.Touching.{touching_at}
-use Rattle.touching.proofs.Walk.{left_from, ends_behind, ends_within, all_left, none_left, link_in, next-left}
 use Rattle.tanks.specs.Tanks.{tanks, links_to}
-use Rattle.tanks.proofs.Walks.{through, Walked, walk_next, through_here, through_other, through_none, to_touching}
+use Rattle.tanks.proofs.Walks.{through, Walked}
 use Rattle.tanks.proofs.links_to.Given as goal
 
 abbrev pub invariant-loop-p : goal.invariant-loop-p

@@ -1,8 +1,7 @@
 -- `tanks::tank_links` meets its contract. Assumes nothing.
-use Rattle.tanks.proofs.Turns.{Reached, next, tanks_none, tanks_here, tanks_other, tanks_all}
-use Rattle.tanks.specs.Tanks.{tanks, tank_updates}
+use Rattle.tanks.proofs.Turns.{next, tanks_none, tanks_here, tanks_other, tanks_all}
+use Rattle.tanks.specs.Tanks.{tanks}
 use native.Mathlib.Omega.{arith}
-use Prim.Native.Nat.{◌-◌}
 use mathlib.Core.Path.{◌≡◌, refl, ap}
 use lib.ListN.{length}
 use Rattle.tanks.proofs.tank_links.Goals as goal

@@ -1,11 +1,7 @@
 -- `tanks::tank_links` meets its contract. Assumes nothing.
-use Rattle.tanks.proofs.Turns.{Reached, next, tanks_none, tanks_here, tanks_other, tanks_all}
-use Rattle.tanks.specs.Tanks.{tanks, tank_updates}
-use mathlib.Core.Logic.{⊎_elim}
-use native.Mathlib.Omega.{arith}
+use Rattle.tanks.proofs.Turns.{Reached}
+use Rattle.tanks.specs.Tanks.{tank_updates}
 use Prim.Native.Nat.{◌-◌}
-use mathlib.Core.Path.{◌≡◌, refl, ap}
-use lib.ListN.{length}
 use Rattle.tanks.proofs.tank_links.Given as goal
 
 abbrev pub invariant-loop-i : goal.invariant-loop-i

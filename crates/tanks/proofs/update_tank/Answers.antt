@@ -1,7 +1,6 @@
 -- `tanks::update_tank` meets its contract. Assumes nothing.
 use Rattle.constants.specs.Constants as constant
 use Rattle.tanks.proofs.Turns.{tank_made}
-use borrow.Author.Rules.{rules}
 use native.Mathlib.Omega.{arith}
 use lib.ListN.{length-set}
 use Rattle.tanks.proofs.update_tank.Goals as goal

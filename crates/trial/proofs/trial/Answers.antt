@@ -56,9 +56,6 @@ assemble-requires-clause-matrix_value c = c.requires.scratch_value
 pub assemble-requires-clause-nodes_in_bounds : goal.assemble-requires-clause-nodes_in_bounds
 assemble-requires-clause-nodes_in_bounds c = (c.requires.room.demands, (c.requires.room.drawn, c.requires.room.grounded))
 
-pub assemble-requires-clause-table_value : goal.assemble-requires-clause-table_value
-assemble-requires-clause-table_value c = c.requires.table_value
-
 pub factor-requires : goal.factor-requires
 factor-requires c =
     let few : c.args.l.unknowns ≤ 64 = omega (arith, c.requires.network.nodes, c.requires.network.unknowns, at_most c.args.sheet.now c.args.l c.args.l.nodes) in
@@ -75,17 +72,17 @@ node_of-node-requires-clause-rows_right c =
 
 pub repair-requires-clause-laid : goal.repair-requires-clause-laid
 repair-requires-clause-laid c =
-    let below = failing_below c.args.sheet.now c.args.l _ _ _ _ c.requires.network.unknowns c.factor.ensures.answer c.in-Stopped.is c.node_of-node.ensures in
+    let below = failing_below c.args.sheet.now c.args.l _ _ _ _ c.requires.network.unknowns c.factor.ensures.answer c.in-Err.is c.node_of-node.ensures in
     c.requires.network.laid
 
 pub repair-requires-clause-links_at : goal.repair-requires-clause-links_at
 repair-requires-clause-links_at c =
-    let below = failing_below c.args.sheet.now c.args.l _ _ _ _ c.requires.network.unknowns c.factor.ensures.answer c.in-Stopped.is c.node_of-node.ensures in
+    let below = failing_below c.args.sheet.now c.args.l _ _ _ _ c.requires.network.unknowns c.factor.ensures.answer c.in-Err.is c.node_of-node.ensures in
     c.requires.links_at
 
 pub repair-requires-clause-node_lt_nodes : goal.repair-requires-clause-node_lt_nodes
 repair-requires-clause-node_lt_nodes c =
-    let below = failing_below c.args.sheet.now c.args.l _ _ _ _ c.requires.network.unknowns c.factor.ensures.answer c.in-Stopped.is c.node_of-node.ensures in
+    let below = failing_below c.args.sheet.now c.args.l _ _ _ _ c.requires.network.unknowns c.factor.ensures.answer c.in-Err.is c.node_of-node.ensures in
     (below, (c.requires.room.statuses, omega (arith, c.requires.room.grounded, below)))
 
 pub substitute-requires : goal.substitute-requires
@@ -109,20 +106,20 @@ step-requires-clause-links_in_bounds c = omega (arith, c.requires.network.links,
 pub step-requires-clause-room : goal.step-requires-clause-room
 step-requires-clause-room c = c.requires.room
 
-pub returns-in-Stopped-clause-state : goal.returns-in-Stopped-clause-state
+pub returns-in-Err-clause-state : goal.returns-in-Err-clause-state
 unfolding zeros
-returns-in-Stopped-clause-state c =
+returns-in-Err-clause-state c =
     let filled : System = system c.assemble.new.matrix c.assemble.new.rhs c.assemble.new.g c.assemble.new.y in
     let was : State = state c.args.heads.now c.args.demands.now c.args.drawn.now c.args.flows.now c.args.statuses.now c.args.grounded.now in
     let long : length c.args.scratch.now ≡ 4096 = all-long c.requires.scratch_value in
     let assembled : filled ≡ system_of c.args.sheet.now c.args.l was = system_of_lem c.args.sheet.now c.args.l was c.args.scratch.now _ c.excess_flows.new.excess filled.matrix filled.rhs filled.g filled.y (long) c.counts-counted.ensures c.excess_flows.ensures c.assemble.ensures in
     let factors : c.factor.new.a ≡ factors_of c.args.sheet.now c.args.l was = factors_left c.args.sheet.now c.args.l was filled.matrix filled.rhs filled.g filled.y c.factor.new.a assembled c.factor.ensures.matrix in
     let m = filled in
-    trial_stops repair_of c.args.sheet.now c.args.l c.args.d was m.matrix m.rhs m.g m.y c.factor.new.a c.factor.result (outcome c.repair.result (state c.args.heads.now c.args.demands.now c.args.drawn.now c.args.flows.now c.repair.new.statuses c.repair.new.grounded)) assembled c.factor.ensures.matrix c.factor.ensures.answer _ c.in-Stopped.is (repair_of_lem c.args.sheet.now c.args.l was _ _ c.repair.result c.repair.new.statuses c.repair.new.grounded c.node_of-node.ensures c.repair.ensures)
+    trial_stops repair_of c.args.sheet.now c.args.l c.args.d was m.matrix m.rhs m.g m.y c.factor.new.a c.factor.result (outcome c.repair.result (state c.args.heads.now c.args.demands.now c.args.drawn.now c.args.flows.now c.repair.new.statuses c.repair.new.grounded)) assembled c.factor.ensures.matrix c.factor.ensures.answer _ c.in-Err.is (repair_of_lem c.args.sheet.now c.args.l was _ _ c.repair.result c.repair.new.statuses c.repair.new.grounded c.node_of-node.ensures c.repair.ensures)
 
-pub returns-in-Stopped-clause-factors : goal.returns-in-Stopped-clause-factors
+pub returns-in-Err-clause-factors : goal.returns-in-Err-clause-factors
 unfolding zeros
-returns-in-Stopped-clause-factors c =
+returns-in-Err-clause-factors c =
     let filled : System = system c.assemble.new.matrix c.assemble.new.rhs c.assemble.new.g c.assemble.new.y in
     let was : State = state c.args.heads.now c.args.demands.now c.args.drawn.now c.args.flows.now c.args.statuses.now c.args.grounded.now in
     let long : length c.args.scratch.now ≡ 4096 = all-long c.requires.scratch_value in
@@ -131,23 +128,23 @@ returns-in-Stopped-clause-factors c =
     let m = filled in
     factors
 
-pub shape_of-scratch-in-Done : goal.shape_of-scratch-in-Done
-shape_of-scratch-in-Done c = c.factor.auto.a ∙ c.assemble.auto.matrix
+pub shape_of-scratch-in-Ok : goal.shape_of-scratch-in-Ok
+shape_of-scratch-in-Ok c = c.factor.auto.a ∙ c.assemble.auto.matrix
 
-pub returns-in-Done-clause-state : goal.returns-in-Done-clause-state
+pub returns-in-Ok-clause-state : goal.returns-in-Ok-clause-state
 unfolding zeros
-returns-in-Done-clause-state c =
+returns-in-Ok-clause-state c =
     let filled : System = system c.assemble.new.matrix c.assemble.new.rhs c.assemble.new.g c.assemble.new.y in
     let was : State = state c.args.heads.now c.args.demands.now c.args.drawn.now c.args.flows.now c.args.statuses.now c.args.grounded.now in
     let long : length c.args.scratch.now ≡ 4096 = all-long c.requires.scratch_value in
     let assembled : filled ≡ system_of c.args.sheet.now c.args.l was = system_of_lem c.args.sheet.now c.args.l was c.args.scratch.now _ c.excess_flows.new.excess filled.matrix filled.rhs filled.g filled.y (long) c.counts-counted.ensures c.excess_flows.ensures c.assemble.ensures in
     let factors : c.factor.new.a ≡ factors_of c.args.sheet.now c.args.l was = factors_left c.args.sheet.now c.args.l was filled.matrix filled.rhs filled.g filled.y c.factor.new.a assembled c.factor.ensures.matrix in
     let m = filled in
-    trial_steps repair_of c.args.sheet.now c.args.l c.args.d was m.matrix m.rhs m.g m.y c.factor.new.a c.factor.result (outcome c.step.result (state c.step.new.heads c.step.new.demands c.step.new.drawn c.step.new.flows c.step.new.statuses c.args.grounded.now)) assembled c.factor.ensures.matrix c.factor.ensures.answer _ c.in-Done.is c.substitute.ensures c.step.ensures
+    trial_steps repair_of c.args.sheet.now c.args.l c.args.d was m.matrix m.rhs m.g m.y c.factor.new.a c.factor.result (outcome c.step.result (state c.step.new.heads c.step.new.demands c.step.new.drawn c.step.new.flows c.step.new.statuses c.args.grounded.now)) assembled c.factor.ensures.matrix c.factor.ensures.answer _ c.in-Ok.is c.substitute.ensures c.step.ensures
 
-pub returns-in-Done-clause-factors : goal.returns-in-Done-clause-factors
+pub returns-in-Ok-clause-factors : goal.returns-in-Ok-clause-factors
 unfolding zeros
-returns-in-Done-clause-factors c =
+returns-in-Ok-clause-factors c =
     let filled : System = system c.assemble.new.matrix c.assemble.new.rhs c.assemble.new.g c.assemble.new.y in
     let was : State = state c.args.heads.now c.args.demands.now c.args.drawn.now c.args.flows.now c.args.statuses.now c.args.grounded.now in
     let long : length c.args.scratch.now ≡ 4096 = all-long c.requires.scratch_value in

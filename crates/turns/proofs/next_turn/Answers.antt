@@ -56,12 +56,6 @@ advance-requires-clause-nodes_in_bounds c =
       subst (λ (x : List ℕ). RowsRight c.args.l c.args.sheet.now x) (sym c.number_unknowns.ensures) (rows_right c.args.sheet.now c.args.l _ (omega (arith, c.requires.network.nodes)) (omega (arith, c.requires.network.nodes))),
     )
 
-pub advance-requires-clause-table_value : goal.advance-requires-clause-table_value
-advance-requires-clause-table_value c =
-    let wiped : c.clear.new.x ≡ zeros 4096 = c.clear.ensures ∙ cleared_zeros 4096 _ c.requires.trials_bound.1.1 in
-    let w = due_is c.args.trials c.args.tally (sym c.due.ensures ∙ c.if-not-due.false) in
-    c.power_table-table.ensures
-
 pub advance-requires-clause-room : goal.advance-requires-clause-room
 advance-requires-clause-room c =
     let wiped : c.clear.new.x ≡ zeros 4096 = c.clear.ensures ∙ cleared_zeros 4096 _ c.requires.trials_bound.1.1 in

@@ -4,4 +4,4 @@ use borrow.Author.Rules.{rules}
 use Rattle.update.proofs.change_at.Goals as goal
 
 pub returns : goal.returns
-returns c = change_of_lem _ _ _ _ _ _ _ _ _ _ c.elevation-up.ensures c.elevation-down.ensures c.status_of.ensures c.updated.ensures
+returns c = change_of_lem _ _ _ _ _ _ _ _ _ _ c.elevation-up.ensures c.elevation-down.ensures c.from.ensures c.updated.ensures

@@ -9,9 +9,9 @@ use borrow.Author.Rules.{rules}
 use mathlib.Core.Path.{◌≡◌, refl}
 use Rattle.update.proofs.change_counts.Goals as goal
 
-pub returns-in-Stays : goal.returns-in-Stays
+pub returns-in-None : goal.returns-in-None
 unfolding counts
-returns-in-Stays c = simp c.in-Stays.is
+returns-in-None c = simp c.in-None.is
 
 pub returns-in-TempClosed : goal.returns-in-TempClosed
 unfolding counts leaves status_of

@@ -3,8 +3,8 @@ use Rattle.update.proofs.Made.{telling_same, telling_new}
 use borrow.Author.Rules.{rules}
 use Rattle.update.proofs.tell.Goals as goal
 
-pub returns-in-Stays : goal.returns-in-Stays
-returns-in-Stays c = telling_same _ _ _ c.in-Stays.is
+pub returns-in-None : goal.returns-in-None
+returns-in-None c = telling_same _ _ _ c.in-None.is
 
-pub returns-in-Becomes : goal.returns-in-Becomes
-returns-in-Becomes c = telling_new _ _ _ _ _ _ c.in-Becomes.is c.first_flip.ensures
+pub returns-in-Some : goal.returns-in-Some
+returns-in-Some c = telling_new _ _ _ _ _ _ c.in-Some.is c.first_flip.ensures

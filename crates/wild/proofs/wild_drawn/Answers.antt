@@ -9,10 +9,10 @@ pub returns-then-not-l : goal.returns-then-not-l
 returns-then-not-l c = drawn_none _ _ c.if-not-l.true
 
 pub overflow_add-result : goal.overflow_add-result
-overflow_add-result c = omega (arith, found_below _ _ _ (sym c.first_wild.ensures ∙ c.in-At.is))
+overflow_add-result c = omega (arith, found_below _ _ _ (sym c.first_wild.ensures ∙ c.in-Some.is))
 
-pub returns-in-At : goal.returns-in-At
-returns-in-At c = drawn_found _ _ _ c.if-not-l.false (sym c.first_wild.ensures ∙ c.in-At.is)
+pub returns-in-Some : goal.returns-in-Some
+returns-in-Some c = drawn_found _ _ _ c.if-not-l.false (sym c.first_wild.ensures ∙ c.in-Some.is)
 
-pub returns-in-Nothing : goal.returns-in-Nothing
-returns-in-Nothing c = drawn_found _ _ _ c.if-not-l.false (sym c.first_wild.ensures ∙ c.in-Nothing.is)
+pub returns-in-None : goal.returns-in-None
+returns-in-None c = drawn_found _ _ _ c.if-not-l.false (sym c.first_wild.ensures ∙ c.in-None.is)

@@ -3,8 +3,8 @@ use Prim.Native.Nat.{◌-◌, ◌≤◌}
 use lib.ListN.{length}
 use Rattle.word_vectors.proofs.show_words.Given as goal
 
-abbrev pub invariant-loop-at : goal.invariant-loop-at
-invariant-loop-at g l = l.at ≤ length l.line
+abbrev pub invariant-loop-w : goal.invariant-loop-w
+invariant-loop-w g l = l.at ≤ length l.line
 
-abbrev pub decreases-loop-at : goal.decreases-loop-at
-decreases-loop-at g l = length l.line - l.at
+abbrev pub decreases-loop-w : goal.decreases-loop-w
+decreases-loop-w g l = length l.line - l.at

@@ -3,18 +3,17 @@ use Rattle.numbering.proofs.Rows.{row_below}
 use Rattle.assembly.proofs.Built.{grounded_none, grounded_next}
 use Rattle.assembly.specs.Assembly.{grounded_of}
 use native.Mathlib.Omega.{arith}
-use Prim.Native.Nat.{ℕ, ◌-◌, ◌≤◌}
+use Prim.Native.Nat.{ℕ}
 use mathlib.Core.Path.{◌≡◌, refl, ap, ◌∙◌}
-use lib.ListN.{length}
 use Rattle.assembly.proofs.building.add_grounded.Goals as goal
 
 pub loop-i-init : goal.loop-i-init
-loop-i-init c = (omega arith, grounded_none _ _ _ _, refl)
+loop-i-init c = (grounded_none _ _ _ _, refl)
 
 pub ground-requires-clause-matrix_len : goal.ground-requires-clause-matrix_len
 ground-requires-clause-matrix_len c =
     let row = c.unknown_of-row.ensures ∙ c.requires.rows_right.right c.loop-i.i c.loop-i-test.true in
-    omega (arith, c.requires.nodes_bound, c.loop-i.invariant.2)
+    omega (arith, c.requires.nodes_bound, c.loop-i.invariant.1)
 
 pub ground-requires-clause-row_below : goal.ground-requires-clause-row_below
 ground-requires-clause-row_below c =
@@ -24,12 +23,12 @@ ground-requires-clause-row_below c =
 pub loop-i-preserved : goal.loop-i-preserved
 loop-i-preserved c =
     let row = c.unknown_of-row.ensures ∙ c.requires.rows_right.right c.loop-i.i c.loop-i-test.true in
-    (omega (arith, c.loop-i-test.true), grounded_next _ _ _ _ _ _ _ _ row c.loop-i.invariant.1 c.ground.ensures, omega (arith, c.ground.auto.matrix, c.loop-i.invariant.2))
+    (grounded_next _ _ _ _ _ _ _ _ row c.loop-i.invariant.0 c.ground.ensures, omega (arith, c.ground.auto.matrix, c.loop-i.invariant.1))
 
 pub shape_of-matrix : goal.shape_of-matrix
-shape_of-matrix c = c.loop-i.invariant.2
+shape_of-matrix c = c.loop-i.invariant.1
 
 pub returns : goal.returns
 returns c =
-    let e : c.loop-i.i ≡ c.args.l.nodes = omega (arith, c.loop-i.invariant.0, c.loop-i-test.false) in
-    c.loop-i.invariant.1 ∙ ap (λ (k : ℕ). grounded_of c.args.sheet.now c.args.l c.args.grounded.now k c.args.matrix.now) e
+    let e : c.loop-i.i ≡ c.args.l.nodes = omega arith in
+    c.loop-i.invariant.0 ∙ ap (λ (k : ℕ). grounded_of c.args.sheet.now c.args.l c.args.grounded.now k c.args.matrix.now) e

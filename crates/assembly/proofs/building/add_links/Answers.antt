@@ -1,8 +1,8 @@
 -- `assembly::building::add_links` meets its contract. Assumes nothing.
-use Rattle.assembly.proofs.Built.{Linked, links_none, links_next, sized_kept}
+use Rattle.assembly.proofs.Built.{links_none, links_next, sized_kept}
 use Rattle.assembly.specs.Assembly.{view, system, with_links}
 use native.Mathlib.Omega.{arith}
-use Prim.Native.Nat.{ℕ, ◌-◌}
+use Prim.Native.Nat.{ℕ}
 use mathlib.Core.Path.{◌≡◌, refl, ap, ◌∙◌}
 use Rattle.assembly.proofs.building.add_links.Goals as goal
 
@@ -14,9 +14,6 @@ add_link-requires-clause-given c = c.requires.given
 
 pub add_link-requires-clause-sized : goal.add_link-requires-clause-sized
 add_link-requires-clause-sized c = sized_kept c.requires.sized c.loop-j.invariant.m_long c.loop-j.invariant.r_long c.loop-j.invariant.g_long c.loop-j.invariant.y_long
-
-pub add_link-requires-clause-table_value : goal.add_link-requires-clause-table_value
-add_link-requires-clause-table_value c = (c.requires.table_value, c.loop-j-test.true)
 
 pub loop-j-preserved : goal.loop-j-preserved
 loop-j-preserved c =

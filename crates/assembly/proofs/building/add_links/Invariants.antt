@@ -1,9 +1,7 @@
 -- `assembly::building::add_links` meets its contract. Assumes nothing.
-use Rattle.assembly.proofs.Built.{Linked, links_none, links_next, sized_kept}
-use Rattle.assembly.specs.Assembly.{view, system, with_links}
-use native.Mathlib.Omega.{arith}
-use Prim.Native.Nat.{ℕ, ◌-◌}
-use mathlib.Core.Path.{◌≡◌, refl, ap, ◌∙◌}
+use Rattle.assembly.proofs.Built.{Linked}
+use Rattle.assembly.specs.Assembly.{view}
+use Prim.Native.Nat.{◌-◌}
 use Rattle.assembly.proofs.building.add_links.Given as goal
 
 abbrev pub invariant-loop-j : goal.invariant-loop-j

@@ -1,7 +1,6 @@
 -- `assembly::building::assemble` meets its contract. Assumes nothing.
 use Rattle.assembly.proofs.Built.{assembled}
 use Rattle.assembly.specs.Assembly.{view}
-use borrow.Author.Rules.{rules}
 use native.Mathlib.Omega.{arith}
 use mathlib.Core.Path.{◌≡◌, sym, ap, ◌∙◌}
 use mathlib.Core.List.{List}
@@ -24,9 +23,6 @@ add_links-requires-clause-sized c = record {
   g = c.requires.sized.g;
   y = c.requires.sized.y;
 }
-
-pub add_links-requires-clause-table_value : goal.add_links-requires-clause-table_value
-add_links-requires-clause-table_value c = c.requires.table_value
 
 pub add_demands-requires-clause-bending : goal.add_demands-requires-clause-bending
 add_demands-requires-clause-bending c = record { laid = c.requires.given.laid; few = c.requires.given.few; numbers = c.requires.given.numbers; asked_long = c.requires.nodes_in_bounds.0; drawn_long = c.requires.nodes_in_bounds.1.0; rows = c.requires.given.rows }

@@ -1,6 +1,5 @@
 -- `assembly::building::ground` meets its contract. Assumes nothing.
 use Rattle.assembly.proofs.Built.{ground_marked, ground_not}
-use borrow.Author.Rules.{rules}
 use Rattle.assembly.proofs.building.ground.Goals as goal
 
 pub returns-then-grounded : goal.returns-then-grounded

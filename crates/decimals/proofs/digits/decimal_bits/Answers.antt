@@ -2,7 +2,6 @@
 use Prim.Native.Nat.{ℕ, ◌*◌, ◌^◌, ◌≤◌, ◌<◌}
 use native.Mathlib.Omega.{arith}
 use lib.Dec.{lit<}
-use borrow.Author.Rules.{rules}
 use Rattle.decimals.specs.Wide.{value}
 use Rattle.decimals.proofs.Cases.{small_power, small_product, above, zero_is, divided_is, multiplied_is}
 use Rattle.decimals.proofs.digits.decimal_bits.Goals as goal

@@ -1,6 +1,5 @@
 -- `decimals::ratios::divide` meets its contract. Assumes nothing.
 use native.Mathlib.Omega.{arith}
-use borrow.Author.Rules.{rules}
 use Rattle.decimals.specs.Wide.{value}
 use Rattle.decimals.proofs.Wides.{one_digit}
 use Rattle.decimals.proofs.Quotients.{renamed}

@@ -1,9 +1,7 @@
 -- `decimals::ratios::raise` meets its contract. Assumes nothing.
 use Prim.Native.Nat.{◌+◌, ◌-◌, ◌^◌, ◌<◌}
-use native.Mathlib.Omega.{arith}
-use lib.Pow.{pow_pos}
 use Rattle.decimals.specs.Wide.{value}
-use Rattle.decimals.proofs.Wides.{yes, no, Doubled, start, more}
+use Rattle.decimals.proofs.Wides.{Doubled}
 use Rattle.decimals.proofs.ratios.raise.Given as goal
 
 abbrev pub invariant-loop-b : goal.invariant-loop-b

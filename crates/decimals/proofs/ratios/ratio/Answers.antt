@@ -1,6 +1,5 @@
 -- `decimals::ratios::ratio` meets its contract. Assumes nothing.
 use native.Mathlib.Omega.{arith}
-use borrow.Author.Rules.{rules}
 use Rattle.decimals.specs.Wide.{value}
 use Rattle.decimals.proofs.Exponents.{ratio_is}
 use Rattle.decimals.proofs.ratios.ratio.Goals as goal

@@ -3,7 +3,6 @@ use mathlib.Core.Path.{◌≡◌, subst}
 use Prim.Native.Nat.{ℕ, ◌+◌, ◌*◌, ◌/◌, ◌%◌, ◌^◌}
 use native.Mathlib.Nat.{mod-lt}
 use native.Mathlib.Omega.{arith}
-use borrow.Author.Rules.{rules}
 use Rattle.decimals.specs.Parts.{Divided}
 use Rattle.decimals.proofs.Quotients.{halves}
 use Rattle.decimals.proofs.ratios.short_division.Goals as goal

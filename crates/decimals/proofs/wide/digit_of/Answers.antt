@@ -3,7 +3,6 @@ use mathlib.Core.Path.{refl}
 use Prim.Native.Nat.{◌+◌, ◌-◌, ◌*◌, ◌/◌, ◌%◌, ◌^◌}
 use native.Mathlib.Nat.{mod-lt}
 use lib.Dec.{lit<}
-use borrow.Author.Rules.{rules}
 use Rattle.decimals.specs.Wide.{value}
 use Rattle.decimals.proofs.Wides.{lessened, one_taken}
 use Rattle.decimals.proofs.wide.digit_of.Goals as goal

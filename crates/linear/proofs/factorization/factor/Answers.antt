@@ -12,7 +12,6 @@ use native.Mathlib.Nat.{sub-zero}
 use lib.ListN.{length, length-set}
 use lib.Ieee.{Float, binary64, div}
 use Rattle.zeros.proofs.Zeros.{endless_most, finite_none, minus_zero_most, firm_none}
-use Rattle.linear.specs.declared.factorization.Factored.TheVariants.{Done, Stopped}
 use Rattle.linear.specs.Matrix.{at, put}
 use Rattle.linear.specs.Factorization.{above, reduced, divided, columns, factor_of}
 use Rattle.linear.specs.Skipping.{FirmFrom, FiniteFrom}
@@ -20,11 +19,12 @@ use Rattle.linear.proofs.FactorTurns.{reduce_none, reduce_next, divide_first, di
 use Rattle.linear.proofs.Skips.{FiniteBefore, still, finite_next, firm_next, finite_more}
 use Rattle.linear.proofs.factorization.factor.Goals as goal
 use Rattle.linear.proofs.factorization.factor.Goals.{then-i-gt0, else-i-gt0+then-p, then-c-n, else-c-n+else-loop-k-test+then-loop-i-test+else-i-gt0+else-p}
+use Rattle.std.specs.Prelude.{Err, Ok}
 
 abbrev Ended : (a₀ a : List Float) (n stopped : ℕ) → Type 0
 Ended a₀ a n stopped =
-    (stopped < n → factor_of n a₀ ≡ record { matrix = a; answer = Stopped (record { 0 = stopped }) })
-    × (n ≤ stopped → factor_of n a₀ ≡ record { matrix = a; answer = Done })
+    (stopped < n → factor_of n a₀ ≡ record { matrix = a; answer = Err (record { 0 = stopped }) })
+    × (n ≤ stopped → factor_of n a₀ ≡ record { matrix = a; answer = (Ok tt) })
 
 pub columns-init : goal.columns-init
 unfolding factor_of

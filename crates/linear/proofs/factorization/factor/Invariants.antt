@@ -13,13 +13,13 @@ use native.Mathlib.Nat.{sub-zero}
 use lib.ListN.{length, length-set}
 use lib.Ieee.{Float, binary64, div}
 use Rattle.zeros.proofs.Zeros.{endless_most, finite_none, minus_zero_most, firm_none}
-use Rattle.linear.specs.declared.factorization.Factored.TheVariants.{Done, Stopped}
 use Rattle.linear.specs.Matrix.{at, put}
 use Rattle.linear.specs.Factorization.{above, reduced, divided, columns, factor_of}
 use Rattle.linear.specs.Skipping.{FirmFrom, FiniteFrom}
 use Rattle.linear.proofs.FactorTurns.{reduce_none, reduce_next, divide_first, divide_next, finish_end, columns_next, columns_stop, columns_end}
 use Rattle.linear.proofs.Skips.{FiniteBefore, still, finite_next, firm_next, finite_more}
 use Rattle.linear.proofs.factorization.factor.Given as goal
+use Rattle.std.specs.Prelude.{Err, Ok}
 
 abbrev pub invariant-loop-k : goal.invariant-loop-k
 invariant-loop-k l = (length l.a ≡ 4096) × (l.k ≤ l.c) × (l.a ≡ reduced l.n l.c l.k l.initial.a)

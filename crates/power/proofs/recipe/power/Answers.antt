@@ -11,8 +11,8 @@ use Rattle.power.proofs.Cases.{by_equal}
 use Rattle.power.proofs.recipe.power.Goals as goal
 
 pub power_by-requires : goal.power_by-requires
-power_by-requires c = subst (λ (l : List ℕ). T (nan_free l)) (sym c.requires) nan_free_852
+power_by-requires c = subst (λ (l : List ℕ). T (nan_free l)) (sym c.args.table.now.right) nan_free_852
 
 pub returns : goal.returns
 unfolding power_of
-returns c = by_equal power_table _ c.args.x _ c.requires c.power_by.ensures
+returns c = by_equal power_table _ c.args.x _ c.args.table.now.right c.power_by.ensures

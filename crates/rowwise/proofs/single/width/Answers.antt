@@ -3,10 +3,10 @@ use borrow.Author.Rules.{rules}
 use Rattle.rowwise.specs.Evening.{width_of}
 use Rattle.rowwise.proofs.single.width.Goals as goal
 
-pub returns-in-Off : goal.returns-in-Off
+pub returns-in-None : goal.returns-in-None
 unfolding width_of
-returns-in-Off c = rw c.in-Off.is
+returns-in-None c = rw c.in-None.is
 
-pub returns-in-By : goal.returns-in-By
+pub returns-in-Some : goal.returns-in-Some
 unfolding width_of
-returns-in-By c = rw c.in-By.is
+returns-in-Some c = rw c.in-Some.is

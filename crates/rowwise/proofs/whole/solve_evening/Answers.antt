@@ -19,55 +19,50 @@ within-copy s h = omega (arith, length-replicate {A = ℕ} 9199 0)
 
 pub options_of-options-requires : goal.options_of-options-requires
 options_of-options-requires c =
-    let w = network_of _ _ (sym c.read.ensures ∙ c.in-Good.is) in
+    let w = network_of _ _ (sym c.read.ensures ∙ c.in-Ok.is) in
     options_within _ _ w.laid
 
 pub admitted-called-requires : goal.admitted-called-requires
 admitted-called-requires c =
-    let good = sym c.read.ensures ∙ c.in-Good.is in
+    let good = sym c.read.ensures ∙ c.in-Ok.is in
     let net = network_of _ _ good in
     (omega (arith, few_trials _ _ good, ap (λ (x : Options). x.trials) c.options_of-options.ensures), omega (arith, c.width.ensures, few_counts c.args.judging), net.nodes, net.links)
 
 pub returns-then-called-ne0 : goal.returns-then-called-ne0
 returns-then-called-ne0 c =
     let lent_of : Lends = lends c.args.heads.now c.args.demands.now c.args.flows.now c.args.statuses.now c.args.entries.now c.args.counts.now c.args.totals.now c.args.scratch.now in
-    evening-not c.args.judging c.args.sheet.now c.args.rows c.args.table.now lent_of _ c.read.ensures _ _ _ _ c.in-Good.is (ap (λ (x : Options). x.trials) c.options_of-options.ensures) c.width.ensures c.admitted-called.ensures (ne_eqb _ _ c.if-called-ne0.true)
+    evening-not c.args.judging c.args.sheet.now c.args.rows c.args.table.now lent_of _ c.read.ensures _ _ _ _ c.in-Ok.is (ap (λ (x : Options). x.trials) c.options_of-options.ensures) c.width.ensures c.admitted-called.ensures (ne_eqb _ _ c.if-called-ne0.true)
 
 pub slice_bounds-copy-end : goal.slice_bounds-copy-end
-slice_bounds-copy-end c = few_bytes _ _ (sym c.read.ensures ∙ c.in-Good.is)
+slice_bounds-copy-end c = few_bytes _ _ (sym c.read.ensures ∙ c.in-Ok.is)
 
 pub slice_bounds-solve_rows-end : goal.slice_bounds-solve_rows-end
-slice_bounds-solve_rows-end c = sym (length-take-le (length c.args.sheet.now) (replicate 9199 0) (within-copy c.args.sheet.now (few_bytes _ _ (sym c.read.ensures ∙ c.in-Good.is))))
+slice_bounds-solve_rows-end c = sym (length-take-le (length c.args.sheet.now) (replicate 9199 0) (within-copy c.args.sheet.now (few_bytes _ _ (sym c.read.ensures ∙ c.in-Ok.is))))
 
 pub solve_rows-requires-clause-sheet_value : goal.solve_rows-requires-clause-sheet_value
 solve_rows-requires-clause-sheet_value c =
-    let good = sym c.read.ensures ∙ c.in-Good.is in
+    let good = sym c.read.ensures ∙ c.in-Ok.is in
     good
 
 pub solve_rows-requires-clause-trials_value : goal.solve_rows-requires-clause-trials_value
 solve_rows-requires-clause-trials_value c =
-    let good = sym c.read.ensures ∙ c.in-Good.is in
+    let good = sym c.read.ensures ∙ c.in-Ok.is in
     ap (λ (x : Options). x.trials) c.options_of-options.ensures
 
 pub solve_rows-requires-clause-copy_len : goal.solve_rows-requires-clause-copy_len
 solve_rows-requires-clause-copy_len c =
-    let good = sym c.read.ensures ∙ c.in-Good.is in
+    let good = sym c.read.ensures ∙ c.in-Ok.is in
     length-take-le (length c.args.sheet.now) (replicate 9199 0) (within-copy c.args.sheet.now (few_bytes _ _ good))
 
 pub solve_rows-requires-clause-fits : goal.solve_rows-requires-clause-fits
 solve_rows-requires-clause-fits c =
-    let good = sym c.read.ensures ∙ c.in-Good.is in
+    let good = sym c.read.ensures ∙ c.in-Ok.is in
     fits_admitted c.args.judging _ _ _ c.args.rows _ _ c.width.ensures c.admitted-called.ensures c.if-called-ne0.false
 
-pub solve_rows-requires-clause-powers_value : goal.solve_rows-requires-clause-powers_value
-solve_rows-requires-clause-powers_value c =
-    let good = sym c.read.ensures ∙ c.in-Good.is in
-    c.power_table-powers.ensures
-
-pub returns-in-Refused : goal.returns-in-Refused
-returns-in-Refused c =
+pub returns-in-Err : goal.returns-in-Err
+returns-in-Err c =
     let lent_of : Lends = lends c.args.heads.now c.args.demands.now c.args.flows.now c.args.statuses.now c.args.entries.now c.args.counts.now c.args.totals.now c.args.scratch.now in
-    evening_refused c.args.judging c.args.sheet.now c.args.rows c.args.table.now lent_of _ c.read.ensures _ _ _ c.in-Refused.is c.refusal_number.ensures c.refusal_place.ensures
+    evening_refused c.args.judging c.args.sheet.now c.args.rows c.args.table.now lent_of _ c.read.ensures _ _ _ c.in-Err.is c.refusal_number.ensures c.refusal_place.ensures
 
 pub shape_of-heads : goal.shape_of-heads
 shape_of-heads c = c.solve_rows.auto.heads
@@ -96,4 +91,4 @@ shape_of-scratch c = c.solve_rows.auto.scratch
 pub returns-else-called-ne0 : goal.returns-else-called-ne0
 returns-else-called-ne0 c =
     let lent_of : Lends = lends c.args.heads.now c.args.demands.now c.args.flows.now c.args.statuses.now c.args.entries.now c.args.counts.now c.args.totals.now c.args.scratch.now in
-    evening-done c.args.judging c.args.sheet.now c.args.rows c.args.table.now lent_of _ c.read.ensures _ _ _ _ c.in-Good.is (ap (λ (x : Options). x.trials) c.options_of-options.ensures) c.width.ensures c.admitted-called.ensures _ (eq-eqb _ _ c.if-called-ne0.false) c.solve_rows.ensures
+    evening-done c.args.judging c.args.sheet.now c.args.rows c.args.table.now lent_of _ c.read.ensures _ _ _ _ c.in-Ok.is (ap (λ (x : Options). x.trials) c.options_of-options.ensures) c.width.ensures c.admitted-called.ensures _ (eq-eqb _ _ c.if-called-ne0.false) c.solve_rows.ensures

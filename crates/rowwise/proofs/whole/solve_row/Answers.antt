@@ -138,8 +138,8 @@ bad_demand-bad-requires-clause-nodes_bound_2 c =
     let net = network_of _ _ c.requires.sheet_value in
     (net.nodes, omega (arith, c.requires.fits.few), rooms.table)
 
-pub copy_bytes-requires : goal.copy_bytes-requires
-copy_bytes-requires c = (omega (arith, c.requires.copy_len), omega arith)
+pub copy_first-requires : goal.copy_first-requires
+copy_first-requires c = (omega (arith, c.requires.copy_len), omega arith)
 
 pub put_row-requires-clause-laid : goal.put_row-requires-clause-laid
 put_row-requires-clause-laid c =
@@ -149,8 +149,8 @@ put_row-requires-clause-laid c =
     (subst (λ (k : ℕ). Fits c.args.l c.args.trials k (c.args.r + 1) (lengths_of c.args.table.now lent_of)) (sym c.width-wide.ensures) c.requires.fits) net.nodes net.links
     (omega (arith, few_trials _ _ c.requires.sheet_value, c.requires.trials_value)) (omega (arith, c.width-wide.ensures, few_counts c.args.judging)) in
     let net = network_of _ _ c.requires.sheet_value in
-    let e : c.copy_bytes.new.to ≡ c.args.sheet.now = c.copy_bytes.ensures ∙ whole_copy c.args.sheet.now c.args.copy.now c.requires.copy_len in
-    laid_long c.args.l c.args.sheet.now c.copy_bytes.new.to (ap length e) net.laid
+    let e : c.copy_first.new.to ≡ c.args.sheet.now = c.copy_first.ensures ∙ whole_copy c.args.sheet.now c.args.copy.now c.requires.copy_len in
+    laid_long c.args.l c.args.sheet.now c.copy_first.new.to (ap length e) net.laid
 
 pub put_row-requires-clause-nodes_bound : goal.put_row-requires-clause-nodes_bound
 put_row-requires-clause-nodes_bound c =
@@ -160,7 +160,7 @@ put_row-requires-clause-nodes_bound c =
     (subst (λ (k : ℕ). Fits c.args.l c.args.trials k (c.args.r + 1) (lengths_of c.args.table.now lent_of)) (sym c.width-wide.ensures) c.requires.fits) net.nodes net.links
     (omega (arith, few_trials _ _ c.requires.sheet_value, c.requires.trials_value)) (omega (arith, c.width-wide.ensures, few_counts c.args.judging)) in
     let net = network_of _ _ c.requires.sheet_value in
-    let e : c.copy_bytes.new.to ≡ c.args.sheet.now = c.copy_bytes.ensures ∙ whole_copy c.args.sheet.now c.args.copy.now c.requires.copy_len in
+    let e : c.copy_first.new.to ≡ c.args.sheet.now = c.copy_first.ensures ∙ whole_copy c.args.sheet.now c.args.copy.now c.requires.copy_len in
     (net.nodes, omega (arith, c.requires.fits.few), rooms.table)
 
 pub offset_bounds-heads-n : goal.offset_bounds-heads-n
@@ -278,7 +278,7 @@ solve_one-requires-clause-sheet_value c =
     ends c.args.l c.args.trials c.width-wide.result c.args.r _
     (subst (λ (k : ℕ). Fits c.args.l c.args.trials k (c.args.r + 1) (lengths_of c.args.table.now lent_of)) (sym c.width-wide.ensures) c.requires.fits) net.nodes net.links
     (omega (arith, few_trials _ _ c.requires.sheet_value, c.requires.trials_value)) (omega (arith, c.width-wide.ensures, few_counts c.args.judging)) in
-    row_read c.args.sheet.now _ _ c.args.l c.args.table.now c.args.r _ c.requires.sheet_value c.type_inv.table c.bad_demand-bad.ensures (c.copy_bytes.ensures ∙ whole_copy c.args.sheet.now c.args.copy.now c.requires.copy_len) c.put_row.ensures
+    row_read c.args.sheet.now _ _ c.args.l c.args.table.now c.args.r _ c.requires.sheet_value c.type_inv.table c.bad_demand-bad.ensures (c.copy_first.ensures ∙ whole_copy c.args.sheet.now c.args.copy.now c.requires.copy_len) c.put_row.ensures
 
 pub solve_one-requires-clause-judging_in_bounds : goal.solve_one-requires-clause-judging_in_bounds
 solve_one-requires-clause-judging_in_bounds c =
@@ -290,15 +290,6 @@ solve_one-requires-clause-judging_in_bounds c =
       omega (arith, c.width-wide.ensures, part_long (c.args.r * c.width-wide.result) c.width-wide.result c.args.counts.now rooms.counts),
       omega (arith, part_long (c.args.r * 3) 3 c.args.totals.now rooms.totals),
     )
-
-pub solve_one-requires-clause-powers_value : goal.solve_one-requires-clause-powers_value
-solve_one-requires-clause-powers_value c =
-    let lent_of : Lends = lends c.args.heads.now c.args.demands.now c.args.flows.now c.args.statuses.now c.args.entries.now c.args.counts.now c.args.totals.now c.args.scratch.now in
-    let rooms : Ends c.args.l c.args.trials c.width-wide.result c.args.r (lengths_of c.args.table.now lent_of) = let net = network_of _ _ c.requires.sheet_value in
-    ends c.args.l c.args.trials c.width-wide.result c.args.r _
-    (subst (λ (k : ℕ). Fits c.args.l c.args.trials k (c.args.r + 1) (lengths_of c.args.table.now lent_of)) (sym c.width-wide.ensures) c.requires.fits) net.nodes net.links
-    (omega (arith, few_trials _ _ c.requires.sheet_value, c.requires.trials_value)) (omega (arith, c.width-wide.ensures, few_counts c.args.judging)) in
-    c.requires.powers_value
 
 pub shape_of-heads : goal.shape_of-heads
 shape_of-heads c =
@@ -367,9 +358,9 @@ pub shape_of-scratch : goal.shape_of-scratch
 shape_of-scratch c = c.solve_one.auto.scratch
 
 pub shape_of-copy : goal.shape_of-copy
-shape_of-copy c = c.put_row.auto.sheet ∙ c.copy_bytes.auto.to
+shape_of-copy c = c.put_row.auto.sheet ∙ c.copy_first.auto.to
 
 pub returns : goal.returns
 returns c =
     let lent_of : Lends = lends c.args.heads.now c.args.demands.now c.args.flows.now c.args.statuses.now c.args.entries.now c.args.counts.now c.args.totals.now c.args.scratch.now in
-    row_done_lem c.args.judging c.args.sheet.now c.args.l c.args.table.now c.args.r c.args.trials c.width-wide.result _ _ _ _ _ lent_of _ _ _ c.requires.trials_value c.width-wide.ensures (part_size (c.args.r * c.args.l.nodes) c.args.l.nodes) (part_size (c.args.r * c.args.l.links) c.args.l.links) (part_size (c.args.r * (4 * c.args.trials)) (4 * c.args.trials)) (part_size (c.args.r * c.width-wide.result) c.width-wide.result) (part_size (c.args.r * 3) 3) (c.copy_bytes.ensures ∙ whole_copy c.args.sheet.now c.args.copy.now c.requires.copy_len) c.put_row.ensures c.solve_one.ensures
+    row_done_lem c.args.judging c.args.sheet.now c.args.l c.args.table.now c.args.r c.args.trials c.width-wide.result _ _ _ _ _ lent_of _ _ _ c.requires.trials_value c.width-wide.ensures (part_size (c.args.r * c.args.l.nodes) c.args.l.nodes) (part_size (c.args.r * c.args.l.links) c.args.l.links) (part_size (c.args.r * (4 * c.args.trials)) (4 * c.args.trials)) (part_size (c.args.r * c.width-wide.result) c.width-wide.result) (part_size (c.args.r * 3) 3) (c.copy_first.ensures ∙ whole_copy c.args.sheet.now c.args.copy.now c.requires.copy_len) c.put_row.ensures c.solve_one.ensures

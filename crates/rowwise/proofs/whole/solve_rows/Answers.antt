@@ -25,9 +25,6 @@ solve_row-requires-clause-copy_len c = c.loop-r.invariant.1 ∙ c.requires.copy_
 pub solve_row-requires-clause-fits : goal.solve_row-requires-clause-fits
 solve_row-requires-clause-fits c = fits_kept c.args.l c.args.trials (width_of c.args.judging) c.args.rows c.loop-r.r _ _ c.loop-r.invariant.2 c.loop-r-test.true c.requires.fits
 
-pub solve_row-requires-clause-powers_value : goal.solve_row-requires-clause-powers_value
-solve_row-requires-clause-powers_value c = c.requires.powers_value
-
 pub overflow_step-r : goal.overflow_step-r
 overflow_step-r c = omega (arith, c.loop-r-test.true, c.requires.fits.few)
 

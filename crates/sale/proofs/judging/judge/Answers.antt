@@ -1,52 +1,86 @@
--- `sale::judging::judge` meets its contract: the lines from the last to the first, put together by one law. Assumes nothing.
-use borrow.Author.Rules.{rules}
-use Rattle.sale.proofs.Laws.{judge_of_lem}
+-- `sale::judging::judge` meets its contract: the lines before the one that holds found nothing. Assumes nothing.
+use Rattle.std.proofs.Common.{sym, ◌∙◌}
+use Rattle.columns.specs.Columns.{zeros}
+use Rattle.sale.proofs.Laws.{line_2, line_3, line_4, line_5, line_6, line_7, line_8, no_line, unbalanced_told, unsettled_told}
 use Rattle.sale.proofs.judging.judge.Goals as goal
 
-pub low-low-requires-clause-laid : goal.low-low-requires-clause-laid
-low-low-requires-clause-laid c = c.requires.network.laid
+pub returns-in-Some : goal.returns-in-Some
+returns-in-Some c =
+    line_2 c.args.sheet.now c.args.l c.args.limits c.args.trials c.args.heads.now c.args.demands.now c.args.flows.now c.args.statuses.now c.args.entries.now _ _
+    (sym c.repair_shown.ensures ∙ c.in-Some.is)
+    c.holds.ensures
 
-pub low-low-requires-clause-nodes_in_bounds : goal.low-low-requires-clause-nodes_in_bounds
-low-low-requires-clause-nodes_in_bounds c = c.requires.ample.heads
+pub returns-in-Some-undetermined : goal.returns-in-Some-undetermined
+returns-in-Some-undetermined c =
+    line_3 c.args.sheet.now c.args.l c.args.limits c.args.trials c.args.heads.now c.args.demands.now c.args.flows.now c.args.statuses.now c.args.entries.now _ _
+    (sym c.repair_shown.ensures ∙ c.in_default.is)
+    (sym c.undetermined.ensures ∙ c.in-Some-undetermined.is)
+    c.holds-in-Some-undetermined.ensures
 
-pub ill_drawn-ill-requires-clause-laid : goal.ill_drawn-ill-requires-clause-laid
-ill_drawn-ill-requires-clause-laid c = c.requires.network.laid
+pub returns-in-Some-unbalanced : goal.returns-in-Some-unbalanced
+unfolding zeros
+returns-in-Some-unbalanced c =
+    line_4 c.args.sheet.now c.args.l c.args.limits c.args.trials c.args.heads.now c.args.demands.now c.args.flows.now c.args.statuses.now c.args.entries.now _ _
+    (sym c.repair_shown.ensures ∙ c.in_default.is)
+    (sym c.undetermined.ensures ∙ c.in_default-undetermined.is)
+    (unbalanced_told c.args.sheet.now c.args.l c.args.limits c.args.heads.now c.args.demands.now c.args.flows.now c.args.statuses.now _ _ c.in-Some-unbalanced.is _ c.imbalance.ensures c.unbalanced.ensures)
+    c.holds-in-Some-unbalanced.ensures
 
-pub ill_drawn-ill-requires-clause-nodes_in_bounds : goal.ill_drawn-ill-requires-clause-nodes_in_bounds
-ill_drawn-ill-requires-clause-nodes_in_bounds c = (c.requires.ample.heads, c.requires.ample.demands)
+pub returns-in-Some-unsettled : goal.returns-in-Some-unsettled
+unfolding zeros
+returns-in-Some-unsettled c =
+    line_5 c.args.sheet.now c.args.l c.args.limits c.args.trials c.args.heads.now c.args.demands.now c.args.flows.now c.args.statuses.now c.args.entries.now _ _
+    (sym c.repair_shown.ensures ∙ c.in_default.is)
+    (sym c.undetermined.ensures ∙ c.in_default-undetermined.is)
+    (unbalanced_told c.args.sheet.now c.args.l c.args.limits c.args.heads.now c.args.demands.now c.args.flows.now c.args.statuses.now _ _ c.in_default-unbalanced.is _ c.imbalance.ensures c.unbalanced.ensures)
+    (unsettled_told c.args.sheet.now c.args.l c.args.limits c.args.heads.now c.args.demands.now c.args.flows.now c.args.statuses.now _ _ c.in-Some-unsettled.is _ c.excess_flows.ensures c.unsettled.ensures)
+    c.holds-in-Some-unsettled.ensures
 
-pub unheld-unheld-requires-clause-laid : goal.unheld-unheld-requires-clause-laid
-unheld-unheld-requires-clause-laid c = c.requires.network.laid
+pub returns-in-Some-unheld : goal.returns-in-Some-unheld
+unfolding zeros
+returns-in-Some-unheld c =
+    line_6 c.args.sheet.now c.args.l c.args.limits c.args.trials c.args.heads.now c.args.demands.now c.args.flows.now c.args.statuses.now c.args.entries.now _ _
+    (sym c.repair_shown.ensures ∙ c.in_default.is)
+    (sym c.undetermined.ensures ∙ c.in_default-undetermined.is)
+    (unbalanced_told c.args.sheet.now c.args.l c.args.limits c.args.heads.now c.args.demands.now c.args.flows.now c.args.statuses.now _ _ c.in_default-unbalanced.is _ c.imbalance.ensures c.unbalanced.ensures)
+    (unsettled_told c.args.sheet.now c.args.l c.args.limits c.args.heads.now c.args.demands.now c.args.flows.now c.args.statuses.now _ _ c.in_default-unsettled.is _ c.excess_flows.ensures c.unsettled.ensures)
+    (sym c.unheld.ensures ∙ c.in-Some-unheld.is)
+    c.holds-in-Some-unheld.ensures
 
-pub unheld-unheld-requires-clause-ends_in : goal.unheld-unheld-requires-clause-ends_in
-unheld-unheld-requires-clause-ends_in c = c.requires.network.ends
+pub returns-in-Some-ill_drawn : goal.returns-in-Some-ill_drawn
+unfolding zeros
+returns-in-Some-ill_drawn c =
+    line_7 c.args.sheet.now c.args.l c.args.limits c.args.trials c.args.heads.now c.args.demands.now c.args.flows.now c.args.statuses.now c.args.entries.now _ _
+    (sym c.repair_shown.ensures ∙ c.in_default.is)
+    (sym c.undetermined.ensures ∙ c.in_default-undetermined.is)
+    (unbalanced_told c.args.sheet.now c.args.l c.args.limits c.args.heads.now c.args.demands.now c.args.flows.now c.args.statuses.now _ _ c.in_default-unbalanced.is _ c.imbalance.ensures c.unbalanced.ensures)
+    (unsettled_told c.args.sheet.now c.args.l c.args.limits c.args.heads.now c.args.demands.now c.args.flows.now c.args.statuses.now _ _ c.in_default-unsettled.is _ c.excess_flows.ensures c.unsettled.ensures)
+    (sym c.unheld.ensures ∙ c.in_default-unheld.is)
+    (sym c.ill_drawn.ensures ∙ c.in-Some-ill_drawn.is)
+    c.holds-in-Some-ill_drawn.ensures
 
-pub unheld-unheld-requires-clause-links_in_bounds : goal.unheld-unheld-requires-clause-links_in_bounds
-unheld-unheld-requires-clause-links_in_bounds c = (c.requires.ample.statuses, c.requires.ample.heads)
-
-pub tell_flows-fourth-requires-clause-network : goal.tell_flows-fourth-requires-clause-network
-tell_flows-fourth-requires-clause-network c = c.requires.network
-
-pub tell_flows-fourth-requires-clause-nodes_in_bounds : goal.tell_flows-fourth-requires-clause-nodes_in_bounds
-tell_flows-fourth-requires-clause-nodes_in_bounds c = (c.requires.ample.heads, (c.requires.ample.demands, (c.requires.ample.flows, c.requires.ample.statuses)))
-
-pub tell_flows-fourth-requires-clause-table_value : goal.tell_flows-fourth-requires-clause-table_value
-tell_flows-fourth-requires-clause-table_value c = c.requires.table_value
-
-pub undetermined-undetermined-requires-clause-laid : goal.undetermined-undetermined-requires-clause-laid
-undetermined-undetermined-requires-clause-laid c = c.requires.network.laid
-
-pub undetermined-undetermined-requires-clause-ends_in : goal.undetermined-undetermined-requires-clause-ends_in
-undetermined-undetermined-requires-clause-ends_in c = c.requires.network.ends
-
-pub undetermined-undetermined-requires-clause-nodes_bound : goal.undetermined-undetermined-requires-clause-nodes_bound
-undetermined-undetermined-requires-clause-nodes_bound c = (c.requires.network.nodes, c.requires.network.links)
-
-pub undetermined-undetermined-requires-clause-links_in_bounds : goal.undetermined-undetermined-requires-clause-links_in_bounds
-undetermined-undetermined-requires-clause-links_in_bounds c = (c.requires.ample.flows, c.requires.ample.statuses)
-
-pub repair_shown-requires : goal.repair_shown-requires
-repair_shown-requires c = (c.requires.ample.few, c.requires.ample.entries)
+pub returns-in-Some-low : goal.returns-in-Some-low
+unfolding zeros
+returns-in-Some-low c =
+    line_8 c.args.sheet.now c.args.l c.args.limits c.args.trials c.args.heads.now c.args.demands.now c.args.flows.now c.args.statuses.now c.args.entries.now _ _
+    (sym c.repair_shown.ensures ∙ c.in_default.is)
+    (sym c.undetermined.ensures ∙ c.in_default-undetermined.is)
+    (unbalanced_told c.args.sheet.now c.args.l c.args.limits c.args.heads.now c.args.demands.now c.args.flows.now c.args.statuses.now _ _ c.in_default-unbalanced.is _ c.imbalance.ensures c.unbalanced.ensures)
+    (unsettled_told c.args.sheet.now c.args.l c.args.limits c.args.heads.now c.args.demands.now c.args.flows.now c.args.statuses.now _ _ c.in_default-unsettled.is _ c.excess_flows.ensures c.unsettled.ensures)
+    (sym c.unheld.ensures ∙ c.in_default-unheld.is)
+    (sym c.ill_drawn.ensures ∙ c.in_default-ill_drawn.is)
+    (sym c.low.ensures ∙ c.in-Some-low.is)
+    c.holds-in-Some-low.ensures
 
 pub returns : goal.returns
-returns c = judge_of_lem _ _ _ _ _ _ _ _ _ _ _ _ _ _ _ _ _ _ _ _ c.low-low.ensures c.told-eighth.ensures c.ill_drawn-ill.ensures c.told-seventh.ensures c.unheld-unheld.ensures c.told-sixth.ensures c.tell_flows-fourth.ensures c.undetermined-undetermined.ensures c.told-third.ensures c.repair_shown.ensures c.told.ensures
+unfolding zeros
+returns c =
+    no_line c.args.sheet.now c.args.l c.args.limits c.args.trials c.args.heads.now c.args.demands.now c.args.flows.now c.args.statuses.now c.args.entries.now _ 0
+    (sym c.repair_shown.ensures ∙ c.in_default.is)
+    (sym c.undetermined.ensures ∙ c.in_default-undetermined.is)
+    (unbalanced_told c.args.sheet.now c.args.l c.args.limits c.args.heads.now c.args.demands.now c.args.flows.now c.args.statuses.now _ _ c.in_default-unbalanced.is _ c.imbalance.ensures c.unbalanced.ensures)
+    (unsettled_told c.args.sheet.now c.args.l c.args.limits c.args.heads.now c.args.demands.now c.args.flows.now c.args.statuses.now _ _ c.in_default-unsettled.is _ c.excess_flows.ensures c.unsettled.ensures)
+    (sym c.unheld.ensures ∙ c.in_default-unheld.is)
+    (sym c.ill_drawn.ensures ∙ c.in_default-ill_drawn.is)
+    (sym c.low.ensures ∙ c.in_default-low.is)
+    c.holds-2.ensures

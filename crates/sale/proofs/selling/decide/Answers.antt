@@ -15,8 +15,5 @@ judge-requires-clause-network c = network_of _ _ c.requires.sheet_value
 pub judge-requires-clause-ample : goal.judge-requires-clause-ample
 judge-requires-clause-ample c = c.requires.backed.room _ c.requires.sheet_value c.if-answer-ne0.false
 
-pub judge-requires-clause-table_value : goal.judge-requires-clause-table_value
-judge-requires-clause-table_value c = c.requires.table_value
-
 pub returns : goal.returns
 returns c = (λ scratch. decide_judged c.args.sheet.now c.args.limits c.args.answer (lent c.args.heads.now c.args.demands.now c.args.flows.now c.args.statuses.now c.args.entries.now scratch) c.args.l _ (eq-eqb _ _ c.if-answer-ne0.false) c.judge.ensures)

@@ -15,11 +15,6 @@ decide-verdict-requires-clause-backed c =
     let e = solved_as c.args.sheet.now c.args.l (lent c.args.heads.now c.args.demands.now c.args.flows.now c.args.statuses.now c.args.entries.now c.args.scratch.now) _ c.requires.sheet_value c.solve_read-answer.ensures in
     backed c.args.sheet.now (lent c.args.heads.now c.args.demands.now c.args.flows.now c.args.statuses.now c.args.entries.now c.args.scratch.now) _ _ _ _ _ _ (ap (λ (o : Solved). o.answer) e) c.solve_read-answer.auto.heads c.solve_read-answer.auto.demands c.solve_read-answer.auto.flows c.solve_read-answer.auto.statuses c.solve_read-answer.auto.entries
 
-pub decide-verdict-requires-clause-table_value : goal.decide-verdict-requires-clause-table_value
-decide-verdict-requires-clause-table_value c =
-    let e = solved_as c.args.sheet.now c.args.l (lent c.args.heads.now c.args.demands.now c.args.flows.now c.args.statuses.now c.args.entries.now c.args.scratch.now) _ c.requires.sheet_value c.solve_read-answer.ensures in
-    c.requires.table_value
-
 pub returns : goal.returns
 returns c =
     let e = solved_as c.args.sheet.now c.args.l (lent c.args.heads.now c.args.demands.now c.args.flows.now c.args.statuses.now c.args.entries.now c.args.scratch.now) _ c.requires.sheet_value c.solve_read-answer.ensures in

@@ -21,4 +21,4 @@ pub returns-in_default : goal.returns-in_default
 returns-in_default c = c.bad_link.ensures ∙ sym (field-link c.args.b c.args.l c.args.sheet.now (sym c.options_good-options.ensures ∙ not-false _ (ap not c.if-not-options.false)) (sym c.pressures_fine-pressures.ensures ∙ not-false _ (ap not c.if-not-pressures.false)) (sym c.bad_node.ensures ∙ c.in_default.is))
 
 pub returns : goal.returns
-returns c = sym (field-node c.args.b c.args.l c.args.sheet.now (sym c.options_good-options.ensures ∙ not-false _ (ap not c.if-not-options.false)) (sym c.pressures_fine-pressures.ensures ∙ not-false _ (ap not c.if-not-pressures.false)) _ (sym c.bad_node.ensures ∙ c.in-At.is))
+returns c = sym (field-node c.args.b c.args.l c.args.sheet.now (sym c.options_good-options.ensures ∙ not-false _ (ap not c.if-not-options.false)) (sym c.pressures_fine-pressures.ensures ∙ not-false _ (ap not c.if-not-pressures.false)) _ (sym c.bad_node.ensures ∙ c.in-Some.is))

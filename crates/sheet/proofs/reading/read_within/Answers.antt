@@ -10,11 +10,11 @@ use Rattle.layout.specs.declared.places.Layout.{Layout}
 use mathlib.Core.Bool.{true}
 use Rattle.sheet.specs.Scan.{has_options, end_of}
 use Rattle.sheet.specs.Read.{after_scan}
-use Rattle.sheet.specs.declared.reading.Reading.TheVariants.{Refused}
 use Rattle.refusals.specs.declared.refusals.Refusal.TheVariants.{Unreadable}
 use Rattle.sheet.proofs.Readings.{laid_of, options_are, options_fit, no_options, broken, whole}
 use mathlib.Core.Bool.{not}
 use Rattle.sheet.proofs.reading.read_within.Goals as goal
+use Rattle.std.specs.Prelude.{Err}
 
 pub returns-then-not-is_record : goal.returns-then-not-is_record
 returns-then-not-is_record c = sym (no_options c.args.b c.args.sheet.now (options_are c.args.sheet.now _ c.is_record.ensures ∙ not-true _ (ap not c.if-not-is_record.true)))
@@ -35,7 +35,7 @@ returns-then-end-sheet c =
     let ends : (e : ℕ) → e ≡ link_place c.lay_out-l.result c.lay_out-l.result.links → e ≡ end_of s = λ e h. h ∙ ap (λ (l : Layout). link_place l l.links) c.lay_out-l.ensures in
     let flag : has_options s ≡ true = options_are s _ c.is_record.ensures ∙ not-false _ (ap not c.if-not-is_record.false) in
     let e = ends _ c.link_place-end.ensures in
-    ap (λ (at : ℕ). Refused (Unreadable at)) e ∙ sym (broken _ s flag (λ h. c.if-end-sheet.true (e ∙ h)))
+    ap (λ (at : ℕ). Err (Unreadable at)) e ∙ sym (broken _ s flag (λ h. c.if-end-sheet.true (e ∙ h)))
 
 pub check_counts-requires : goal.check_counts-requires
 check_counts-requires c =

@@ -1,10 +1,7 @@
 -- `substitution::substitution::subtract_term` meets its contract. The invariant: the rows down to r are less the term of unknown k. Assumes nothing.
 use native.Mathlib.Omega.{arith}
-use Prim.Native.Nat.{suc, ◌-◌, ◌≤◌, ◌<◌}
 use mathlib.Core.Path.{◌≡◌, refl}
-use lib.ListN.{length, get_or, length-set}
-use lib.Ieee.{nan}
-use Rattle.substitution.specs.Substitution.{less_term}
+use lib.ListN.{length-set}
 use Rattle.substitution.proofs.SubstituteTurns.{term_none, term_next}
 use Rattle.substitution.proofs.substitution.subtract_term.Goals as goal
 

@@ -1,11 +1,9 @@
 -- `substitution::substitution::subtract_term` meets its contract. The invariant: the rows down to r are less the term of unknown k. Assumes nothing.
-use native.Mathlib.Omega.{arith}
 use Prim.Native.Nat.{suc, ◌-◌, ◌≤◌, ◌<◌}
-use mathlib.Core.Path.{◌≡◌, refl}
-use lib.ListN.{length, get_or, length-set}
+use mathlib.Core.Path.{◌≡◌}
+use lib.ListN.{length, get_or}
 use lib.Ieee.{nan}
 use Rattle.substitution.specs.Substitution.{less_term}
-use Rattle.substitution.proofs.SubstituteTurns.{term_none, term_next}
 use Rattle.substitution.proofs.substitution.subtract_term.Given as goal
 
 abbrev pub invariant-loop-r : goal.invariant-loop-r

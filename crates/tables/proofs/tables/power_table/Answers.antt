@@ -3,6 +3,6 @@ use mathlib.Core.Path.{refl}
 use Rattle.tables.specs.Tables.{table_a, table_b, power_table}
 use Rattle.tables.proofs.tables.power_table.Goals as goal
 
-pub returns : goal.returns
+pub invariant_of-result : goal.invariant_of-result
 unfolding power_table table_a table_b
-returns c = refl
+invariant_of-result c = record { right = refl }

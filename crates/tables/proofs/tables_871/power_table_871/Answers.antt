@@ -3,6 +3,6 @@ use mathlib.Core.Path.{refl}
 use Rattle.tables.specs.Tables871.{table_a871, table_b871, power_table871}
 use Rattle.tables.proofs.tables_871.power_table_871.Goals as goal
 
-pub returns : goal.returns
+pub invariant_of-result : goal.invariant_of-result
 unfolding power_table871 table_a871 table_b871
-returns c = refl
+invariant_of-result c = record { right = refl }

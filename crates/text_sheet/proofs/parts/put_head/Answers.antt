@@ -1,5 +1,4 @@
 -- `text_sheet::parts::put_head` meets its contract. Assumes nothing.
-use borrow.Author.Rules.{rules}
 use native.Mathlib.Omega.{arith}
 use Rattle.words.proofs.Laws.{then}
 use Rattle.text_sheet.specs.Sheet.{options_in}
