@@ -31,5 +31,7 @@ pub fn copy_first<T: Copy>(to: &mut [T], from: &[T], n: usize)
     requires { (n ≤ length to.old) × (n ≤ length from.now) }
     ensures { to.new ≡ copied n from.now to.old }
 {
-    to[..n].copy_from_slice(&from[..n]);
+    for i in 0..n {
+        to[i] = from[i];
+    }
 }

@@ -60,8 +60,19 @@ few_true a b e =
       part = (both_right (all_digits a) (all_digits b) d, digits_room 0 (length b) a x (room_first n k));
     }
 
+and_false : (b : Bool) → (b && false) ≡ false
+and_false true = refl
+and_false false = refl
+
+and_true : (b : Bool) → (b && true) ≡ b
+and_true true = refl
+and_true false = refl
+
+abbrev some : Bool → Bool → ℕ → Bool
+some x y count = x && y && ltb 0 count
+
 abbrev fits : Bool → Bool → ℕ → ℕ → Bool
-fits x y point places = x && y && ltb 0 (point + places) && leb (point + places) 17
+fits x y point places = some x y (point + places) && leb (point + places) 17
 
 module _ (m a b : List ℕ) (point : ℕ) (x y : Bool) (p : (point ≡ stretch is_point m) × (point ≤ length m)) (a_is : a ≡ take point m) (b_is : b ≡ drop (suc point) m) (x_is : x ≡ all_digits a) (y_is : y ≡ all_digits b) where
   before-is : a ≡ before is_point m
@@ -82,14 +93,21 @@ module _ (m a b : List ℕ) (point : ℕ) (x y : Bool) (p : (point ≡ stretch i
   case-is : {t : Bool} → fits x y point (length b) ≡ t → cond t (Some (record { digits = value_of (a ++ b); places = length b })) None ≡ mantissa_of m
   case-is e = ap (λ (t : Bool). cond t (Some (record { digits = value_of (a ++ b); places = length b })) None) (sym e ∙ fits_are) ∙ made_is
 
-  pub no_mantissa : fits x y point (length b) ≡ false → None ≡ mantissa_of m
-  no_mantissa e = case-is e
+  pub long_mantissa : 17 < point + length b → None ≡ mantissa_of m
+  long_mantissa h = case-is {t = false} (rw (lt-leb (point + length b) 17 h, and_false (some x y (point + length b))))
 
-  pub few : fits x y point (length b) ≡ true → Few a b
-  few e = few_true a b (sym fits_are ∙ e)
+  module _ (short : point + length b ≤ 17) where
+    fits_some : {t : Bool} → some x y (point + length b) ≡ t → fits x y point (length b) ≡ t
+    fits_some e = rw (le-leb (point + length b) 17 short) (and_true (some x y (point + length b)) ∙ e)
 
-  pub mantissa : fits x y point (length b) ≡ true → (v : ℕ) → v ≡ value_from (value_from 0 a) b → Some (record { digits = v; places = length b }) ≡ mantissa_of m
-  mantissa e v g = ap (λ (n : ℕ). Some (record { digits = n; places = length b })) (g ∙ sym (value_append 0 a b)) ∙ case-is e
+    pub no_mantissa : some x y (point + length b) ≡ false → None ≡ mantissa_of m
+    no_mantissa e = case-is (fits_some e)
+
+    pub few : some x y (point + length b) ≡ true → Few a b
+    few e = few_true a b (sym fits_are ∙ fits_some e)
+
+    pub mantissa : some x y (point + length b) ≡ true → (v : ℕ) → v ≡ value_from (value_from 0 a) b → Some (record { digits = v; places = length b }) ≡ mantissa_of m
+    mantissa e v g = ap (λ (n : ℕ). Some (record { digits = n; places = length b })) (g ∙ sym (value_append 0 a b)) ∙ case-is (fits_some e)
 
 -- its bounds
 pub mantissa_range : (l : List ℕ) → IfSome {T = Mantissa} (mantissa_of l) (λ m. (m.digits < 10 ^ 17) × (m.places ≤ 17))
@@ -111,10 +129,6 @@ mantissa_range m = go (few_digits (before is_point m ++ behind is_point m)) refl
     go false e = tt
 
 -- ---- the exponent: x is its digits, of which there are some where a flag says so
-
-and_false : (b : Bool) → (b && false) ≡ false
-and_false true = refl
-and_false false = refl
 
 pub unsigned_is : {k : ℕ} (l : List ℕ) → k ≡ sign_length l → take (length l - k) (drop k l) ≡ unsigned l
 unsigned_is {k} l e = rest k l ∙ ap (λ (n : ℕ). drop n l) e
@@ -141,7 +155,7 @@ module _ (l x : List ℕ) (e : x ≡ unsigned l) {y : Bool} (y_is : y ≡ all_di
       let v : s ≡ value_of x = omega arith in
       rw (v, g) (fine-is true (rw (some_is true n, le-leb (value_of x) 20 (omega arith))))
 
-exponent_range : (l : List ℕ) → IfSome {T = Exponent} (exponent_of l) (λ x. x.size ≤ 20)
+pub exponent_range : (l : List ℕ) → IfSome {T = Exponent} (exponent_of l) (λ x. x.size ≤ 20)
 unfolding exponent_of
 exponent_range l = go (fine (unsigned l)) refl
   where
@@ -159,7 +173,7 @@ exponent-in-range l = go (ltb (stretch is_mark l) (length l))
 
 -- ---- together
 
-joined_range : (minus : Bool) (m : Mantissa) (x : Exponent) → (m.digits < 10 ^ 17) × (m.places ≤ 17) → x.size ≤ 20 → Ranged (joined_of minus m x)
+pub joined_range : (minus : Bool) (m : Mantissa) (x : Exponent) → (m.digits < 10 ^ 17) × (m.places ≤ 17) → x.size ≤ 20 → Ranged (joined_of minus m x)
 unfolding joined_of
 joined_range minus m x d s = go x.negative (leb m.places x.size) refl
   where

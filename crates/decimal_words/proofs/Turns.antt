@@ -1,18 +1,18 @@
 -- Digits one at a time. Assumes nothing.
 use mathlib.Core.Path.{◌≡◌, refl, sym, ap, ◌∙◌}
-use mathlib.Core.Bool.{Bool, true, false, not, ◌&&◌, false≢true}
+use mathlib.Core.Bool.{Bool, true, false, cond, not, ◌&&◌, ◌||◌, false≢true}
 use mathlib.Core.List.{List, [], ◌∷◌}
 use Prim.Native.Nat.{ℕ, suc, ◌+◌, ◌-◌, ◌*◌, ◌^◌, ◌≤◌, ◌<◌, min}
 use native.Mathlib.Nat.{le_trans, le_of_eq, mul-le-mul_right, mul_comm, mul_assoc, mul-one, pow-suc, pow-le-pow_right, one-le-pow}
 use native.Mathlib.Numerals.{add-one}
 use native.Mathlib.Omega.{arith}
-use lib.Dec.{leb, lit<}
+use lib.Dec.{eqb, leb, lit<}
 use borrow.Author.Tests.{leb-true}
 use lib.ListN.{length, get_or, drop, drop_of_length-le}
 use lib.Seq.{drop-cons}
 use Rattle.std.specs.Char.{is_ascii_digit}
 use Rattle.std.specs.List.{list_all}
-use Rattle.decimal_words.specs.Numbers.{is_digit, all_digits, value_from}
+use Rattle.decimal_words.specs.Numbers.{is_digit, sign_length, all_digits, value_from}
 use Rattle.decimal_words.specs.Room.{Room}
 
 pub both_left : (a b : Bool) → (a && b) ≡ true → a ≡ true
@@ -22,6 +22,17 @@ both_left false b e = e
 pub both_right : (a b : Bool) → (a && b) ≡ true → b ≡ true
 both_right true b e = e
 both_right false b e = absurd (false≢true e)
+
+-- ---- a sign
+
+pub sign_within : (s : List ℕ) → sign_length s ≤ length s
+unfolding sign_length
+sign_within [] = omega arith
+sign_within (c ∷ cs) = go (eqb c 43 || eqb c 45)
+  where
+    go : (b : Bool) → cond {A = ℕ} b 1 0 ≤ suc (length cs)
+    go true = omega arith
+    go false = omega arith
 
 -- ---- a digit
 

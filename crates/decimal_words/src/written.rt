@@ -36,7 +36,11 @@ fn read_mantissa(m: &[u8]) -> Option<Mantissa>
     let whole = &m[..point];
     let part = bytes_behind(m, point);
     let count = point + part.len();
-    let few = all_digits(whole) & all_digits(part) & (0 < count) & (count <= 17);
+    // a long word is refused unread
+    if 17 < count {
+        return None;
+    }
+    let few = all_digits(whole) & all_digits(part) & (0 < count);
     if !few {
         return None;
     }

@@ -5,7 +5,7 @@ ghost use Rattle.std.specs.Prelude.{◌≡◌, leb, length};
 ghost use Rattle.text_sheet.specs.Sheet.{names_of};
 ghost use Rattle.from_text.specs.FromText.{refused, put_of, from_text};
 
-use known::Progress;
+use known::Knowledge;
 use named_lines::NamedLine;
 use survey::survey;
 use text_sheet::{put_names, put_sheet, room_behind, sheet_length};
@@ -36,7 +36,7 @@ fn refused(number: usize, place: usize) -> Taken
 }
 
 // Whether the names of nodes and links fit into so many bytes.
-fn names_fit(known: &Progress<'_>, room: usize) -> bool
+fn names_fit(known: &Knowledge<'_>, room: usize) -> bool
     ensures { result ≡ leb (length (names_of known.now.known)) room }
 {
     match room_behind(&known.nodes, room) {
@@ -46,7 +46,7 @@ fn names_fit(known: &Progress<'_>, room: usize) -> bool
 }
 
 // The sheet and the names of what is known, if both fit.
-fn put_known(known: &Progress<'_>, sheet: &mut [u8], names: &mut [u8]) -> Taken
+fn put_known(known: &Knowledge<'_>, sheet: &mut [u8], names: &mut [u8]) -> Taken
     ensures { record { taken = result; sheet = sheet.new; names = names.new } ≡ put_of known.now.known sheet.old names.old }
 {
     let bytes = sheet_length(known);

@@ -8,7 +8,7 @@ use Rattle.state.specs.State.{State, state}
 use Rattle.answers.specs.Answers.{failed_of}
 use Rattle.answers.specs.declared.Answer.{Answer}
 use Rattle.held.specs.declared.Told.{Told}
-use Rattle.held.specs.declared.Told.TheVariants.{More, Answered, Refused}
+use Rattle.held.specs.declared.Told.TheVariants.{More, Answered, Refused, Other}
 use Rattle.held.specs.declared.Taken.{Taken}
 
 -- what a call tells has its number
@@ -16,6 +16,7 @@ abbrev pub told_number : Told → ℕ
 told_number More = 0
 told_number Answered = 1
 told_number Refused = 2
+told_number (Other number) = number
 
 -- what a call tells: more trials are to be taken, with the counts so far; the answer; a refusal
 abbrev pub more : Tally → Taken

@@ -15,6 +15,8 @@ pub enum Told {
     More,
     Answered,
     Refused,
+    // a number that no call tells: counts may hold any
+    Other(u64),
 }
 
 impl From<Told> for u64 {
@@ -25,6 +27,7 @@ impl From<Told> for u64 {
             Told::More => 0,
             Told::Answered => 1,
             Told::Refused => 2,
+            Told::Other(number) => number,
         }
     }
 }

@@ -4,7 +4,7 @@
 ghost use Rattle.std.specs.Prelude.{◌≡◌};
 ghost use Rattle.known.specs.Known.{is_known, name_fault, ends_fault, settable, setting_fault, data_fault, line_fault};
 
-use known::Progress;
+use known::Knowledge;
 use line_fields::LineFault;
 use named_lines::{Kind, Table};
 use node_lines::{junction_fault, reservoir_fault, tank_fault};
@@ -71,7 +71,7 @@ fn setting_fault(words: &LineWords<'_>, links: &Table<'_>) -> Result<(), LineFau
 
 // A line that is no header.
 #[tactic(auto, unfolding(known::specs::Known::data_fault))]
-fn data_fault(known: &Progress<'_>, words: &LineWords<'_>) -> Result<(), LineFault>
+fn data_fault(known: &Knowledge<'_>, words: &LineWords<'_>) -> Result<(), LineFault>
     ensures { result ≡ data_fault known.now.known.section known.now.known words.now }
 {
     match known.section {
@@ -107,7 +107,7 @@ fn data_fault(known: &Progress<'_>, words: &LineWords<'_>) -> Result<(), LineFau
 
 // Any line: one without words is taken, and a header stands alone on its line.
 #[tactic(auto, unfolding(known::specs::Known::line_fault))]
-pub fn line_fault(known: &Progress<'_>, words: &LineWords<'_>) -> Result<(), LineFault>
+pub fn line_fault(known: &Knowledge<'_>, words: &LineWords<'_>) -> Result<(), LineFault>
     ensures { result ≡ line_fault known.now.known words.now }
 {
     if !words.has(0) {

@@ -2,10 +2,11 @@
 #![tactic(auto)]
 
 ghost use Rattle.std.specs.Prelude.{◌≡◌, Ok, ◌≤◌, length};
-ghost use Rattle.named_lines.specs.Named.{words_from};
+ghost use Rattle.named_lines.specs.Named.{words_from, first_from};
 ghost use Rattle.known.specs.Known.{data_fault, data_taken, line_fault, line_taken, pipe_kind};
 
-use known::Progress;
+use known::Knowledge;
+use line_words::Word;
 use named_lines::Kind;
 use option_settings::with_option;
 use pipe_lines::{PipeStatus, pipe_status};
@@ -23,20 +24,21 @@ fn pipe_kind(status: PipeStatus) -> Kind
     }
 }
 
-// The line from `at` on, which is no header.
+// The line from `at` on, which is no header; its first word is at `name`.
 #[tactic(auto, unfolding(known::specs::Known::data_fault, known::specs::Known::data_taken, known::specs::Known::with_node, known::specs::Known::with_link, known::specs::Known::name_fault, known::specs::Known::setting_fault, known::specs::Known::is_known, named_lines::specs::Named::found_at, named_lines::specs::Named::with_line, named_lines::specs::Named::with_settled))]
-fn take_data(known: &mut Progress<'_>, words: &LineWords<'_>, at: usize)
+fn take_data(known: &mut Knowledge<'_>, words: &LineWords<'_>, name: Word, at: usize)
     requires at_in_bounds { at ≤ length known.old.text }
     requires words { words.now ≡ words_from known.old.text at }
+    requires name { name ≡ first_from known.old.text at }
     requires faultless { data_fault known.old.known.section known.old.known words.now ≡ Ok tt }
     ensures { known.new ≡ record { text = known.old.text; known = data_taken known.old.known.section known.old.known words.now } }
 {
     match known.section {
-        Section::Junctions => known.nodes.put(at, Kind::Junction),
-        Section::Reservoirs => known.nodes.put(at, Kind::Reservoir),
-        Section::Tanks => known.nodes.put(at, Kind::Tank),
-        Section::Pipes => known.links.put(at, pipe_kind(pipe_status(words))),
-        Section::Valves => known.links.put(at, Kind::Valve(valve_kind(words))),
+        Section::Junctions => known.nodes.put(at, name, Kind::Junction),
+        Section::Reservoirs => known.nodes.put(at, name, Kind::Reservoir),
+        Section::Tanks => known.nodes.put(at, name, Kind::Tank),
+        Section::Pipes => known.links.put(at, name, pipe_kind(pipe_status(words))),
+        Section::Valves => known.links.put(at, name, Kind::Valve(valve_kind(words))),
         Section::Status => {
             if let Some(j) = known.links.position(words.word(0)) {
                 known.links.settle(j, at);
@@ -49,9 +51,10 @@ fn take_data(known: &mut Progress<'_>, words: &LineWords<'_>, at: usize)
 
 // The line from `at` on; a header begins its section.
 #[tactic(auto, unfolding(known::specs::Known::line_fault, known::specs::Known::line_taken))]
-pub fn take_line(known: &mut Progress<'_>, words: &LineWords<'_>, at: usize)
+pub fn take_line(known: &mut Knowledge<'_>, words: &LineWords<'_>, name: Word, at: usize)
     requires at_in_bounds { at ≤ length known.old.text }
     requires words { words.now ≡ words_from known.old.text at }
+    requires name { name ≡ first_from known.old.text at }
     requires faultless { line_fault known.old.known words.now ≡ Ok tt }
     ensures { known.new ≡ record { text = known.old.text; known = line_taken known.old.known words.now } }
 {
@@ -63,5 +66,5 @@ pub fn take_line(known: &mut Progress<'_>, words: &LineWords<'_>, at: usize)
         known.section = section_of(first);
         return;
     }
-    take_data(known, words, at);
+    take_data(known, words, name, at);
 }

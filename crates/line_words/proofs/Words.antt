@@ -30,8 +30,12 @@ module _ (l : List ℕ) (at start : ℕ) (is : start ≡ at + stretch not_blank 
   unfolding word_from is_comment
   at_word end n e = sym (rw (sym is, ne_eqb (get_or l start 0) 59 n, sym e))
 
-  at_end : length l ≤ start → record { start = start; end = start } ≡ word_from l at
+  pub at_end : length l ≤ start → record { start = start; end = start } ≡ word_from l at
   at_end h = at_word start (none_past l start h) (omega (arith, ends ends_word l start h))
+
+-- nothing stands behind the last byte
+pub past_the_end : (l : List ℕ) (at : ℕ) → length l ≤ at → record { start = at; end = at } ≡ word_from l at
+past_the_end l at h = at_end l at at (omega (arith, ends not_blank l at h)) h
 
 -- ---- the words of a list, by its first byte
 

@@ -45,6 +45,10 @@ pub fn next_word(line: &[u8], at: usize) -> Word
     requires { at ≤ length line.now }
     ensures { result ≡ word_from line.now at }
 {
+    // most lines have fewer words than are asked for
+    if at == line.len() {
+        return Word { start: at, end: at };
+    }
     let start = at + blanks(&line[at..]);
     if start < line.len() && line[start] == b';' {
         return Word {

@@ -91,6 +91,7 @@ module _ (t : List ℕ) (at : ℕ) (h : at ≤ length t) where
   pub record First (r : Line) : Type 0 where
     pub lines : lines_of l ≡ passage at r.end t ∷ lines_behind r.next t
     pub from : at ≤ r.end
+    pub to : (n : ℕ) → r.next ≡ Some n → r.end ≤ n
     pub within : r.end ≤ length t
     pub further : (n : ℕ) → r.next ≡ Some n → (at < n) × (n ≤ length t)
 
@@ -120,6 +121,7 @@ module _ (t : List ℕ) (at : ℕ) (h : at ≤ length t) where
           record {
             lines = first_piece ∙ ap (λ (ps : List (List ℕ)). passage at (end_of t at stop) t ∷ map without_return ps) o;
             from = end_from.0;
+            to = λ n f. let g : n ≡ stop + 1 = sym (ap (λ (o : Option ℕ). unwrap_or o n) f) in omega (arith, end_from.1);
             within = omega (arith, end_from, within);
             further = λ n f. let g : n ≡ stop + 1 = sym (ap (λ (o : Option ℕ). unwrap_or o n) f) in (omega arith, omega (arith, ltb-true stop (length t) e));
           }
@@ -128,6 +130,7 @@ module _ (t : List ℕ) (at : ℕ) (h : at ≤ length t) where
           record {
             lines = first_piece ∙ ap (λ (ps : List (List ℕ)). passage at (end_of t at stop) t ∷ map without_return ps) o;
             from = end_from.0;
+            to = λ n f. absurd (none-some n f);
             within = omega (arith, end_from, within);
             further = λ n f. absurd (none-some n f);
           }

@@ -14,7 +14,7 @@ use Rattle.line_words.specs.declared.Word.{Word}
 use Rattle.line_words.specs.Words.{words_of, word_from, word_at}
 use Rattle.line_words.proofs.Words.{word_placed, Placed}
 use Rattle.spelled.specs.Spelled.{same_bytes}
-use Rattle.named_lines.specs.Named.{Named, Names, nameless, name_of, position_of, found_at, settled_by, words_from, with_line, with_settled}
+use Rattle.named_lines.specs.Named.{Named, Names, nameless, name_of, position_of, found_at, settled_by, words_from, first_from, with_line, with_settled}
 use Rattle.named_lines.specs.Table.{row_of, rows_of, no_line, Row, Kept}
 use Rattle.named_lines.specs.declared.Kind.{Kind}
 use Rattle.named_lines.specs.declared.NamedLine.{NamedLine}
@@ -27,7 +27,7 @@ module _ (t : List ℕ) (at : ℕ) (h : at ≤ length t) where
 
 -- ---- the search
 
-found_stays : (w : List ℕ) (xs ys : List Named) → position_of w xs < length xs → position_of w (xs ++ ys) ≡ position_of w xs
+pub found_stays : (w : List ℕ) (xs ys : List Named) → position_of w xs < length xs → position_of w (xs ++ ys) ≡ position_of w xs
 unfolding position_of
 found_stays w [] ys h = absurd (omega arith)
 found_stays w (x ∷ xs) ys h = go (same_bytes (name_of x) w) (found_stays w xs ys) h
@@ -36,7 +36,7 @@ found_stays w (x ∷ xs) ys h = go (same_bytes (name_of x) w) (found_stays w xs 
     go true ih g = refl
     go false ih g = ap suc (ih (omega arith))
 
-not_yet : (w : List ℕ) (xs ys : List Named) → position_of w xs ≡ length xs → position_of w (xs ++ ys) ≡ length xs + position_of w ys
+pub not_yet : (w : List ℕ) (xs ys : List Named) → position_of w xs ≡ length xs → position_of w (xs ++ ys) ≡ length xs + position_of w ys
 unfolding position_of
 not_yet w [] ys h = omega arith
 not_yet w (x ∷ xs) ys h = go (same_bytes (name_of x) w) (not_yet w xs ys) h
@@ -193,6 +193,10 @@ module _ (t : List ℕ) (at : ℕ) (h : at ≤ length t) (line : List ℕ) (e : 
 module _ (t : List ℕ) (rows : List NamedLine) (n : ℕ) (k : Kept t rows n) (x : Names) (is : record { text = t; room = length rows; lines = rows_of t (take n rows) } ≡ x) where
   pub in_text : (at : ℕ) → at ≤ length x.text → at ≤ length t
   in_text at h = omega (arith, h, ap (λ (y : Names). length y.text) is)
+
+  pub first_in : (at : ℕ) (w : Word) → w ≡ first_from x.text at → w ≡ word_from (passage at (line_at t at).end t) 0
+  unfolding first_from
+  first_in at w e = e ∙ ap (λ (y : Names). word_from (passage at (line_at y.text at).end y.text) 0) (sym is)
 
   pub below : (j : ℕ) → j < length x.lines → j < n
   below j h = omega (arith, h, ap (λ (y : Names). length y.lines) is, rows_long t rows n k)

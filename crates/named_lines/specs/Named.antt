@@ -1,7 +1,8 @@
 -- The lines of a text that define a name. Definitions only.
 use Rattle.std.specs.Prelude.{ℕ, suc, cond, List, [], ◌∷◌, ◌++◌, Option, Some, None, ltb, length, get_or, set}
 use Rattle.lines.specs.Lines.{passage, line_at}
-use Rattle.line_words.specs.Words.{words_of}
+use Rattle.line_words.specs.declared.Word.{Word}
+use Rattle.line_words.specs.Words.{words_of, word_from}
 use Rattle.spelled.specs.Spelled.{same_bytes}
 use Rattle.named_lines.specs.declared.Kind.{Kind}
 use Rattle.named_lines.specs.declared.Kind.TheVariants.{Junction}
@@ -45,6 +46,10 @@ pub record Names : Type 0 where
 -- the words of the line that begins at a place of the text
 unfoldable pub words_from : List ℕ → ℕ → List (List ℕ)
 words_from t at = words_of (passage at (line_at t at).end t)
+
+-- where its first word stands in it
+unfoldable pub first_from : List ℕ → ℕ → Word
+first_from t at = word_from (passage at (line_at t at).end t) 0
 
 abbrev pub no_names : List ℕ → ℕ → Names
 no_names t room = record { text = t; room = room; lines = [] }

@@ -3,11 +3,11 @@
 
 ghost use Rattle.std.specs.Prelude.{◌≡◌, ◌<◌, ◌≤◌, leb, length, get_or};
 ghost use Rattle.lines.specs.Lines.{passage, line_at};
-ghost use Rattle.named_lines.specs.Named.{nameless, name_of, no_names, found_at, with_line, with_settled};
-ghost use Rattle.named_lines.specs.Table.{Row, row_of};
+ghost use Rattle.named_lines.specs.Named.{nameless, name_of, first_from, no_names, found_at, with_line, with_settled};
+ghost use Rattle.named_lines.specs.Table.{Row, row_of, row_put, row_settled};
 
 use codes::LinkKind;
-use line_words::next_word;
+use line_words::Word;
 use lines::line_at;
 use spelled::same_bytes;
 use std::marker::Model;
@@ -33,6 +33,31 @@ pub struct NamedLine {
     to: usize,
     kind: Kind,
     settled: usize,
+}
+
+// Row n of lent rows: the line from `at` on, its name from `from` up to `to`, its kind; its own line is the one that
+// settled its status.
+#[tactic(auto, unfolding(crate::specs::Table::row_put))]
+pub fn put_row(rows: &mut [NamedLine], n: usize, at: usize, from: usize, to: usize, kind: Kind)
+    requires { n < length rows.old }
+    ensures { rows.new ≡ row_put rows.old n at from to kind }
+{
+    rows[n] = NamedLine {
+        at,
+        from,
+        to,
+        kind,
+        settled: at,
+    };
+}
+
+// Row j settled by the line from `at` on.
+#[tactic(auto, unfolding(crate::specs::Table::row_settled))]
+pub fn settle(rows: &mut [NamedLine], j: usize, at: usize)
+    requires { j < length rows.old }
+    ensures { rows.new ≡ row_settled rows.old j at }
+{
+    rows[j].settled = at;
 }
 
 // Lines of a text that define a name, in lent rows. A clause sees the text, how many rows there are, and the words of the lines.
@@ -141,20 +166,15 @@ impl<'a> Table<'a> {
         None
     }
 
-    // The line from `at` on, behind the others.
-    pub fn put(&mut self, at: usize, kind: Kind)
-        requires { (at ≤ length self.old.text) × (length self.old.lines < self.old.room) }
+    // The line from `at` on, behind the others; its first word is the name, and was found with the others.
+    pub fn put(&mut self, at: usize, name: Word, kind: Kind)
+        requires room { (at ≤ length self.old.text) × (length self.old.lines < self.old.room) }
+        requires name { name ≡ first_from self.old.text at }
         ensures { self.new ≡ with_line self.old at kind }
     {
-        let name = next_word(line_from(self.text, at), 0);
-        self.rows[self.count] = NamedLine {
-            at,
-            from: at + name.start,
-            to: at + name.end,
-            kind,
-            settled: at,
-        };
-        self.count += 1;
+        let n = self.count;
+        put_row(self.rows, n, at, at + name.start, at + name.end, kind);
+        self.count = n + 1;
     }
 
     // Line j settled by the line from `at` on.
@@ -162,7 +182,6 @@ impl<'a> Table<'a> {
         requires { (at ≤ length self.old.text) × (j < length self.old.lines) }
         ensures { self.new ≡ with_settled self.old j at }
     {
-        let rows: &mut [NamedLine] = self.rows;
-        rows[j].settled = at;
+        settle(self.rows, j, at);
     }
 }

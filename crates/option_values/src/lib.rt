@@ -44,7 +44,11 @@ pub fn unit_of(word: &[u8]) -> Option<usize>
 pub fn count_of(word: &[u8]) -> Option<usize>
     ensures { result ≡ count_of word.now }
 {
-    let few = all_digits(word) & (0 < word.len()) & (word.len() <= 17);
+    // a long word is refused unread
+    if 17 < word.len() {
+        return None;
+    }
+    let few = all_digits(word) & (0 < word.len());
     if !few {
         return None;
     }

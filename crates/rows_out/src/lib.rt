@@ -37,9 +37,11 @@ fn refuse<W: Write>(writer: &mut W) -> io::Result<bool> {
 }
 
 fn tell_number<W: Write>(writer: &mut W, r: usize) -> io::Result<()> {
-    standard::put(writer, b"R ")?;
-    standard::put_decimal(writer, r as u64)?;
-    standard::put(writer, b"\n")
+    let mut out = [0u8; 64];
+    out[0] = b'R';
+    let p = words::put_number(r, &mut out, 1);
+    out[p] = b'\n';
+    standard::put(writer, &out[..p + 1])
 }
 
 // A row's answer, from its counts and totals.
@@ -96,6 +98,7 @@ impl Results {
         s: Sizes,
         judged: bool,
         r: usize,
+        out: &mut [u8; 65536],
     ) -> io::Result<()>
         requires { r < 32 }
     {
@@ -108,7 +111,6 @@ impl Results {
         if 200 < a.trials {
             return Ok(());
         }
-        let mut out = [0u8; 65536];
         let n = listing_text::tell(
             sheet,
             a,
@@ -117,7 +119,7 @@ impl Results {
             row_of(&self.flows, r, s.links, 128),
             row_of(&self.statuses, r, s.links, 128),
             row_of(&self.entries, r, 4 * s.trials, 800),
-            &mut out,
+            out,
         );
         standard::put(writer, &out[..n])
     }
@@ -135,8 +137,9 @@ impl Results {
         if 32 < rows {
             return Ok(());
         }
+        let mut out = [0u8; 65536];
         for r in 0..rows {
-            self.tell_row(writer, sheet, s, judged, r)?;
+            self.tell_row(writer, sheet, s, judged, r, &mut out)?;
         }
         Ok(())
     }

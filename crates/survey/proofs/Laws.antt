@@ -8,9 +8,10 @@ use Rattle.std.specs.Prelude.{Ok, Err, Option, Some, None}
 use Rattle.lines.specs.Lines.{lines_of, passage, line_at, lines_behind}
 use Rattle.lines.specs.declared.Line.{Line}
 use Rattle.lines.proofs.Lines.{First, line_first}
-use Rattle.line_words.specs.Words.{words_of}
+use Rattle.line_words.specs.declared.Word.{Word}
+use Rattle.line_words.specs.Words.{words_of, word_from}
 use Rattle.line_fields.specs.declared.LineFault.{LineFault}
-use Rattle.named_lines.specs.Named.{words_from}
+use Rattle.named_lines.specs.Named.{words_from, first_from}
 use Rattle.known.specs.Known.{Reading, nothing_known, line_fault, line_taken, lines_taken, survey_of}
 
 -- ---- line `number` begins at `at`, and those from there on are left
@@ -37,6 +38,11 @@ module _ {t : List ℕ} {x : Reading} {at number : ℕ} (g : Going t x at number
 
   lines_are : lines_taken number x.known (line ∷ behind) ≡ survey_of t
   lines_are = sym (ap (lines_taken number x.known) first.lines) ∙ g.left
+
+  -- where its first word stands, as the tables have it
+  pub name_is : {w : Word} → w ≡ word_from line 0 → w ≡ first_from x.text at
+  unfolding first_from
+  name_is e = e ∙ rw (is, g.text) refl
 
   module _ {ws : List (List ℕ)} (are : ws ≡ words_of line) where
     -- its words, as the tables have them

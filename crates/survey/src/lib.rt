@@ -3,23 +3,45 @@
 
 ghost use Rattle.std.specs.Prelude.{◌≡◌};
 ghost use Rattle.known.specs.Known.{nothing_known, survey_of};
+ghost use Rattle.survey.specs.Surveyed.{surveyed_of};
 
-use known::{Progress, Refused};
+use known::{Knowledge, Progress, Refused};
 use line_faults::line_fault;
 use line_taking::take_line;
+use line_words::next_word;
 use lines::line_at;
 use named_lines::NamedLine;
 use word_places::LineWords;
 
 // The first line that is refused, if there is one; and what was known there.
 #[derive(Drop)]
-pub struct Surveyed<'a> {
+pub struct Findings<'a> {
     pub told: Result<(), Refused>,
-    pub known: Progress<'a>,
+    pub known: Knowledge<'a>,
+}
+
+// The first line that is refused, if there is one; and how far the reading came.
+#[derive(Clone, Copy)]
+pub struct Surveyed {
+    pub told: Result<(), Refused>,
+    pub found: Progress,
+}
+
+impl<'a> Findings<'a> {
+    // The same, with no table.
+    #[tactic(auto, unfolding(crate::specs::Surveyed::surveyed_of))]
+    pub fn surveyed(&self) -> Surveyed
+        ensures { result ≡ surveyed_of (record { told = self.now.told; known = self.now.known.known }) }
+    {
+        Surveyed {
+            told: self.told,
+            found: self.known.progress(),
+        }
+    }
 }
 
 // Reads every line, until one is refused.
-fn read_lines(text: &[u8], known: &mut Progress<'_>) -> Result<(), Refused>
+fn read_lines(text: &[u8], known: &mut Knowledge<'_>) -> Result<(), Refused>
     requires { known.old ≡ record { text = text.now; known = nothing_known } }
     ensures told { record { told = result; known = known.new.known } ≡ survey_of text.now }
     ensures text { known.new.text ≡ text.now }
@@ -28,11 +50,13 @@ fn read_lines(text: &[u8], known: &mut Progress<'_>) -> Result<(), Refused>
     let mut line: usize = 1;
     loop {
         let l = line_at(text, at);
-        let words = LineWords::of(&text[at..l.end]);
+        let bytes = &text[at..l.end];
+        let name = next_word(bytes, 0);
+        let words = LineWords::behind(bytes, name);
         if let Err(fault) = line_fault(known, &words) {
             return Err(Refused { fault, line });
         }
-        take_line(known, &words, at);
+        take_line(known, &words, name, at);
         let Some(next) = l.next else {
             return Ok(());
         };
@@ -46,11 +70,11 @@ pub fn survey<'a>(
     text: &'a [u8],
     nodes: &'a mut [NamedLine; 512],
     links: &'a mut [NamedLine; 1024],
-) -> Surveyed<'a>
+) -> Findings<'a>
     ensures told { record { told = result.told; known = result.known.known } ≡ survey_of text.now }
     ensures text { result.known.text ≡ text.now }
 {
-    let mut known = Progress::new(text, nodes, links);
+    let mut known = Knowledge::new(text, nodes, links);
     let told = read_lines(text, &mut known);
-    Surveyed { told, known }
+    Findings { told, known }
 }

@@ -4,7 +4,7 @@ ghost use Rattle.words.specs.Buffer.{Put, placed};
 ghost use Rattle.named_lines.specs.Named.{position_of};
 ghost use Rattle.text_sheet.specs.Sheet.{head_bytes, nodes_bytes, links_bytes, sheet_of, sheet_size};
 
-use known::Progress;
+use known::Knowledge;
 use named_lines::Table;
 use power::{power_table, power_table_871};
 use records::{Options, Pressures};
@@ -14,7 +14,7 @@ use text_settings::Settings;
 use text_units::{pressure_feet, units_of};
 
 // How many bytes the sheet has.
-pub fn sheet_length(known: &Progress<'_>) -> usize
+pub fn sheet_length(known: &Knowledge<'_>) -> usize
     ensures { result ≡ length (sheet_of known.now.known) }
 {
     let records = 45 * known.nodes.len() + 49 * known.links.len();
@@ -102,7 +102,7 @@ fn put_links(
 }
 
 // The whole sheet; the buffer's bytes behind it stay.
-pub fn put_sheet(known: &Progress<'_>, sheet: &mut [u8])
+pub fn put_sheet(known: &Knowledge<'_>, sheet: &mut [u8])
     requires { length (sheet_of known.now.known) ≤ length sheet.old }
     ensures { sheet.new ≡ placed sheet.old 0 (sheet_of known.now.known) }
 {

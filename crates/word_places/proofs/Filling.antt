@@ -1,18 +1,21 @@
 -- The places of a line's words, filled in one word at a time, and read back. Assumes nothing.
 use mathlib.Core.Path.{◌≡◌, refl, sym, ap, ◌∙◌}
+use mathlib.Core.Bool.{Bool, true, false}
 use mathlib.Core.Logic.{⊎_elim}
-use mathlib.Core.List.{List, []}
+use mathlib.Core.List.{List, [], ◌∷◌}
 use Prim.Native.Nat.{ℕ, zero, suc, ◌+◌, ◌≤◌, ◌<◌, zero-le}
 use native.Mathlib.Nat.{eq-or-lt_of_le}
 use native.Mathlib.Numerals.{add-one}
 use native.Mathlib.Omega.{arith}
+use borrow.Author.Tests.{ltb-true, ltb-false}
 use lib.Dec.{ltb}
-use lib.ListN.{length, get_or, set, length-set}
+use lib.ListN.{length, get_or, set, replicate, length-set}
 use lib.Seq.{get_or-set_same, get_or-set_other}
 use Rattle.lines.specs.Lines.{passage}
 use Rattle.line_words.specs.declared.Word.{Word}
 use Rattle.line_words.specs.Words.{words_of, word_from, word_at}
-use Rattle.line_words.proofs.Words.{word_placed}
+use Rattle.std.proofs.lemmas.List.{get_or-replicate}
+use Rattle.line_words.proofs.Words.{word_placed, past_the_end}
 use Rattle.word_places.specs.Places.{Words}
 
 -- where word k is looked for
@@ -33,17 +36,46 @@ begins_within l (suc k) = (word_placed l k).within
 abbrev pub nowhere : Word
 nowhere = record { start = 0; end = 0 }
 
--- ---- the first k words are in their places
+-- where no word stands
+abbrev pub none_in : List ℕ → Word
+none_in l = record { start = length l; end = length l }
+
+-- a word that is looked for at the end is none, and so are those behind it
+begins_on : (l : List ℕ) (k : ℕ) → begins l k ≡ length l → (i : ℕ) → k ≤ i → begins l i ≡ length l
+unfolding begins
+begins_on l k e zero h = let z : k ≡ 0 = omega arith in rw z at e
+begins_on l k e (suc i) h =
+    ⊎_elim
+    (λ (q : k ≡ suc i). rw q at e)
+    (λ (q : k < suc i). ap (λ (w : Word). w.end) (word_from_lem l i ∙ ap (word_from l) (begins_on l k e i (omega arith)) ∙ sym (past_the_end l (length l) (omega arith))))
+    (eq-or-lt_of_le h)
+
+none_behind : (l : List ℕ) (k i : ℕ) → begins l k ≡ length l → k ≤ i → word_at l i ≡ none_in l
+none_behind l k i e h = word_from_lem l i ∙ ap (word_from l) (begins_on l k e i h) ∙ sym (past_the_end l (length l) (omega arith))
+
+-- ---- the first k words are in their places, and none in the others
 
 pub record Filled (l : List ℕ) (places : List Word) (at k : ℕ) : Type 0 where
   pub long : length places ≡ 10
   pub each : (i : ℕ) → i < k → get_or places i nowhere ≡ word_at l i
+  pub rest : (i : ℕ) → k ≤ i → i < 10 → get_or places i nowhere ≡ none_in l
   pub from : at ≡ begins l k
   pub few : k ≤ 10
 
-pub first : (l : List ℕ) (places : List Word) → length places ≡ 10 → Filled l places 0 0
-unfolding begins
-first l places e = record { long = e; each = λ i h. absurd (omega arith); from = refl; few = omega arith }
+pub first : (l : List ℕ) (w : Word) → w ≡ word_from l 0 → Filled l (w ∷ replicate 9 (none_in l)) w.end 1
+unfolding begins word_at
+first l w is =
+    record {
+      long = refl;
+      each = λ i h. let z : i ≡ 0 = omega arith in rw z is;
+      rest = others;
+      from = ap (λ (v : Word). v.end) is;
+      few = omega arith;
+    }
+  where
+    others : (i : ℕ) → 1 ≤ i → i < 10 → get_or (w ∷ replicate 9 (none_in l)) i nowhere ≡ none_in l
+    others zero k h = absurd (omega arith)
+    others (suc j) k h = get_or-replicate 9 j (none_in l) nowhere (omega arith)
 
 module _ {l : List ℕ} {places : List Word} {at k : ℕ} (p : Filled l places at k) where
   pub at_within : at ≤ length l
@@ -55,6 +87,7 @@ module _ {l : List ℕ} {places : List Word} {at k : ℕ} (p : Filled l places a
       record {
         long = length-set places k w ∙ p.long;
         each = λ i j. ⊎_elim (λ (q : i ≡ k). rw q this) (λ (q : i < k). other i q) (eq-or-lt_of_le (upto i j));
+        rest = λ i j m. get_or-set_other places k i w nowhere (λ r. omega arith) ∙ p.rest i (omega arith) m;
         from = ap (λ (v : Word). v.end) is ∙ ap (begins l) (sym (add-one k));
         few = omega arith;
       }
@@ -73,6 +106,14 @@ module _ {l : List ℕ} {places : List Word} {at k : ℕ} (p : Filled l places a
 
   pub all : 10 ≤ k → Words l places
   all h = record { long = p.long; each = λ i j. p.each i (omega arith) }
+
+  -- the next would be looked for at the end
+  pub no_more : at ≡ length l → Words l places
+  no_more e = record { long = p.long; each = λ i j. go i j (ltb i k) refl }
+    where
+      go : (i : ℕ) → i < 10 → (b : Bool) → ltb i k ≡ b → get_or places i nowhere ≡ word_at l i
+      go i j true f = p.each i (ltb-true i k f)
+      go i j false f = let q : k ≤ i = ltb-false i k f in p.rest i q j ∙ sym (none_behind l k i (sym p.from ∙ e) q)
 
 -- ---- read back
 

@@ -2,7 +2,7 @@
 #![tactic(auto)]
 
 ghost use Rattle.std.specs.Prelude.{◌≡◌, [], ◌<◌, ltb, length, get_or};
-ghost use Rattle.line_words.specs.Words.{words_of};
+ghost use Rattle.line_words.specs.Words.{words_of, word_from};
 
 use line_words::{Word, next_word};
 use std::marker::Model;
@@ -31,9 +31,27 @@ impl<'a> LineWords<'a> {
     pub fn of(line: &'a [u8]) -> LineWords<'a>
         ensures { result ≡ words_of line.now }
     {
-        let mut places = [Word { start: 0, end: 0 }; 10];
-        let mut at: usize = 0;
-        for k in 0..10 {
+        LineWords::behind(line, next_word(line, 0))
+    }
+
+    // The words of a line whose first was found, for a caller who keeps its place.
+    pub fn behind(line: &'a [u8], first: Word) -> LineWords<'a>
+        requires { first ≡ word_from line.now 0 }
+        ensures { result ≡ words_of line.now }
+    {
+        // where no word stands
+        let none = Word {
+            start: line.len(),
+            end: line.len(),
+        };
+        let mut places = [none; 10];
+        places[0] = first;
+        let mut at = first.end;
+        for k in 1..10 {
+            // most lines have fewer words
+            if at == line.len() {
+                return LineWords { line, places };
+            }
             let found = next_word(line, at);
             places[k] = found;
             at = found.end;

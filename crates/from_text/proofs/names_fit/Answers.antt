@@ -2,7 +2,7 @@
 use Rattle.std.proofs.Common.{sym, ap, ◌∙◌, leb, length}
 use Rattle.std.specs.Option.{is_some}
 use Rattle.known.specs.Known.{Reading}
-use Rattle.known.specs.Progress.{reading}
+use Rattle.known.specs.Knowledge.{reading}
 use Rattle.text_sheet.specs.Sheet.{names_of}
 use Rattle.text_sheet.proofs.Sizes.{nodes_over, links_fit}
 use Rattle.from_text.proofs.names_fit.Goals as goal

@@ -7,9 +7,12 @@ use lib.ListN.{get_or, drop}
 use Rattle.lines.specs.Lines.{stretch}
 use Rattle.lines.proofs.Stretches.{rest}
 use Rattle.line_words.specs.Words.{not_blank, ends_word}
-use Rattle.line_words.proofs.Words.{at_comment, at_word, none_past}
+use Rattle.line_words.proofs.Words.{at_comment, at_word, none_past, past_the_end}
 use Rattle.line_words.proofs.next_word.Goals.{else-start-line-via-then-start-line+else-line-start-eq59, else-start-line-via-else-start-line}
 use Rattle.line_words.proofs.next_word.Goals as goal
+
+pub returns-then-at-line : goal.returns-then-at-line
+returns-then-at-line c = past_the_end c.args.line.now c.args.at (omega arith)
 
 pub returns-then-line-start-eq59 : goal.returns-then-line-start-eq59
 returns-then-line-start-eq59 c =

@@ -3,7 +3,7 @@ use Rattle.std.proofs.Common.{arith, ap, ◌∙◌, length}
 use Rattle.words.specs.Buffer.{placed}
 use Rattle.words.proofs.Laws.{then}
 use Rattle.known.specs.Known.{Reading}
-use Rattle.known.specs.Progress.{reading}
+use Rattle.known.specs.Knowledge.{reading}
 use Rattle.text_sheet.specs.Sheet.{sheet_of}
 use Rattle.text_sheet.proofs.Laws.{put_length, nodes_size}
 use Rattle.text_sheet.proofs.Sizes.{size_parts, head_size, sheet_size_lem}
