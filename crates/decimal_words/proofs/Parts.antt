@@ -93,21 +93,31 @@ module _ (m a b : List ℕ) (point : ℕ) (x y : Bool) (p : (point ≡ stretch i
   case-is : {t : Bool} → fits x y point (length b) ≡ t → cond t (Some (record { digits = value_of (a ++ b); places = length b })) None ≡ mantissa_of m
   case-is e = ap (λ (t : Bool). cond t (Some (record { digits = value_of (a ++ b); places = length b })) None) (sym e ∙ fits_are) ∙ made_is
 
+  pub no_mantissa : fits x y point (length b) ≡ false → None ≡ mantissa_of m
+  no_mantissa e = case-is e
+
+  pub few : fits x y point (length b) ≡ true → Few a b
+  few e = few_true a b (sym fits_are ∙ e)
+
+  pub mantissa : fits x y point (length b) ≡ true → (v : ℕ) → v ≡ value_from (value_from 0 a) b → Some (record { digits = v; places = length b }) ≡ mantissa_of m
+  mantissa e v g = ap (λ (n : ℕ). Some (record { digits = n; places = length b })) (g ∙ sym (value_append 0 a b)) ∙ case-is e
+
+  -- where the length was looked at first
   pub long_mantissa : 17 < point + length b → None ≡ mantissa_of m
-  long_mantissa h = case-is {t = false} (rw (lt-leb (point + length b) 17 h, and_false (some x y (point + length b))))
+  long_mantissa h = no_mantissa (rw (lt-leb (point + length b) 17 h, and_false (some x y (point + length b))))
 
   module _ (short : point + length b ≤ 17) where
     fits_some : {t : Bool} → some x y (point + length b) ≡ t → fits x y point (length b) ≡ t
     fits_some e = rw (le-leb (point + length b) 17 short) (and_true (some x y (point + length b)) ∙ e)
 
-    pub no_mantissa : some x y (point + length b) ≡ false → None ≡ mantissa_of m
-    no_mantissa e = case-is (fits_some e)
+    pub no_short_mantissa : some x y (point + length b) ≡ false → None ≡ mantissa_of m
+    no_short_mantissa e = no_mantissa (fits_some e)
 
-    pub few : some x y (point + length b) ≡ true → Few a b
-    few e = few_true a b (sym fits_are ∙ fits_some e)
+    pub short_few : some x y (point + length b) ≡ true → Few a b
+    short_few e = few (fits_some e)
 
-    pub mantissa : some x y (point + length b) ≡ true → (v : ℕ) → v ≡ value_from (value_from 0 a) b → Some (record { digits = v; places = length b }) ≡ mantissa_of m
-    mantissa e v g = ap (λ (n : ℕ). Some (record { digits = n; places = length b })) (g ∙ sym (value_append 0 a b)) ∙ case-is (fits_some e)
+    pub short_mantissa : some x y (point + length b) ≡ true → (v : ℕ) → v ≡ value_from (value_from 0 a) b → Some (record { digits = v; places = length b }) ≡ mantissa_of m
+    short_mantissa e = mantissa (fits_some e)
 
 -- its bounds
 pub mantissa_range : (l : List ℕ) → IfSome {T = Mantissa} (mantissa_of l) (λ m. (m.digits < 10 ^ 17) × (m.places ≤ 17))

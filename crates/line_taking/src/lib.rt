@@ -34,11 +34,15 @@ fn take_data(known: &mut Knowledge<'_>, words: &LineWords<'_>, name: Word, at: u
     ensures { known.new ≡ record { text = known.old.text; known = data_taken known.old.known.section known.old.known words.now } }
 {
     match known.section {
-        Section::Junctions => known.nodes.put(at, name, Kind::Junction),
-        Section::Reservoirs => known.nodes.put(at, name, Kind::Reservoir),
-        Section::Tanks => known.nodes.put(at, name, Kind::Tank),
-        Section::Pipes => known.links.put(at, name, pipe_kind(pipe_status(words))),
-        Section::Valves => known.links.put(at, name, Kind::Valve(valve_kind(words))),
+        Section::Junctions => known.nodes.put_named(at, name, Kind::Junction),
+        Section::Reservoirs => known.nodes.put_named(at, name, Kind::Reservoir),
+        Section::Tanks => known.nodes.put_named(at, name, Kind::Tank),
+        Section::Pipes => known
+            .links
+            .put_named(at, name, pipe_kind(pipe_status(words))),
+        Section::Valves => known
+            .links
+            .put_named(at, name, Kind::Valve(valve_kind(words))),
         Section::Status => {
             if let Some(j) = known.links.position(words.word(0)) {
                 known.links.settle(j, at);
@@ -50,8 +54,19 @@ fn take_data(known: &mut Knowledge<'_>, words: &LineWords<'_>, name: Word, at: u
 }
 
 // The line from `at` on; a header begins its section.
+pub fn take_line(known: &mut Knowledge<'_>, words: &LineWords<'_>, at: usize)
+    requires at_in_bounds { at ≤ length known.old.text }
+    requires words { words.now ≡ words_from known.old.text at }
+    requires faultless { line_fault known.old.known words.now ≡ Ok tt }
+    ensures { known.new ≡ record { text = known.old.text; known = line_taken known.old.known words.now } }
+{
+    let name = known.nodes.name_at(at);
+    take_named(known, words, name, at);
+}
+
+// The same, for a caller who has found the line's first word.
 #[tactic(auto, unfolding(known::specs::Known::line_fault, known::specs::Known::line_taken))]
-pub fn take_line(known: &mut Knowledge<'_>, words: &LineWords<'_>, name: Word, at: usize)
+pub fn take_named(known: &mut Knowledge<'_>, words: &LineWords<'_>, name: Word, at: usize)
     requires at_in_bounds { at ≤ length known.old.text }
     requires words { words.now ≡ words_from known.old.text at }
     requires name { name ≡ first_from known.old.text at }

@@ -3,7 +3,7 @@ use Rattle.std.proofs.Common.{ℕ, zero, suc, ◌+◌, ◌-◌, ◌≤◌, ◌<�
 use mathlib.Core.Logic.{⊎_elim}
 use native.Mathlib.Nat.{sub-zero, zero-sub, suc-sub-suc, eq-or-lt_of_le, min-le_left}
 use lib.ListN.{length-set, length-take}
-use lib.Seq.{take-nil, take-take, drop-drop, get_or-set_same, get_or-set_other, take-set-lt}
+use lib.Seq.{take-nil, take-take, drop-drop, get_or-set_same, get_or-set_other, take-set-lt, get_or-append_seam, set-append_seam}
 use lib.Dec.{eqb}
 use borrow.Author.Tests.{eqb-true, eqb-false, lt-ltb, le-ltb}
 use Rattle.std.proofs.lemmas.List.{length-map, length-take-le, get_or-take, get_or-map, map-append, map-set, take_more, take_more_set}
@@ -14,7 +14,7 @@ use Rattle.line_words.specs.declared.Word.{Word}
 use Rattle.line_words.specs.Words.{words_of, word_from, word_at}
 use Rattle.line_words.proofs.Words.{word_placed, Placed}
 use Rattle.spelled.specs.Spelled.{same_bytes}
-use Rattle.named_lines.specs.Named.{Named, Names, nameless, name_of, position_of, found_at, settled_by, words_from, first_from, with_line, with_settled}
+use Rattle.named_lines.specs.Named.{Named, Names, named, nameless, name_of, position_of, found_at, settled_by, words_from, first_from, with_line, with_settled}
 use Rattle.named_lines.specs.Table.{row_of, rows_of, no_line, Row, Kept}
 use Rattle.named_lines.specs.declared.Kind.{Kind}
 use Rattle.named_lines.specs.declared.NamedLine.{NamedLine}
@@ -188,6 +188,14 @@ module _ (t : List ℕ) (at : ℕ) (h : at ≤ length t) (line : List ℕ) (e : 
     unfolding row_of
     row_there kind = record { line = h; said = h; order = omega (arith, placed.to); within = name_in_text; name = name_there }
 
+-- ---- a line that was put is settled by itself
+
+pub settled_last : (x : Names) (at : ℕ) (kind : Kind) → with_settled (with_line x at kind) (length x.lines) at ≡ with_line x at kind
+unfolding with_line with_settled settled_by
+settled_last x at kind =
+    let y : Named = named kind (words_from x.text at) in
+    rw (get_or-append_seam x.lines y [] nameless) (ap (λ (ls : List Named). record { text = x.text; room = x.room; lines = ls }) (set-append_seam x.lines y [] y))
+
 -- ---- the table as a clause sees it
 
 module _ (t : List ℕ) (rows : List NamedLine) (n : ℕ) (k : Kept t rows n) (x : Names) (is : record { text = t; room = length rows; lines = rows_of t (take n rows) } ≡ x) where
@@ -197,6 +205,11 @@ module _ (t : List ℕ) (rows : List NamedLine) (n : ℕ) (k : Kept t rows n) (x
   pub first_in : (at : ℕ) (w : Word) → w ≡ first_from x.text at → w ≡ word_from (passage at (line_at t at).end t) 0
   unfolding first_from
   first_in at w e = e ∙ ap (λ (y : Names). word_from (passage at (line_at y.text at).end y.text) 0) (sym is)
+
+  pub first_of : (at : ℕ) (line : List ℕ) → line ≡ passage at (line_at t at).end t → (w : Word) → w ≡ word_from line 0 → w ≡ first_from x.text at
+  unfolding first_from
+  first_of at line e w f =
+      f ∙ ap (λ (l : List ℕ). word_from l 0) e ∙ ap (λ (y : Names). word_from (passage at (line_at y.text at).end y.text) 0) is
 
   pub below : (j : ℕ) → j < length x.lines → j < n
   below j h = omega (arith, h, ap (λ (y : Names). length y.lines) is, rows_long t rows n k)

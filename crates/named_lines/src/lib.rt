@@ -7,7 +7,7 @@ ghost use Rattle.named_lines.specs.Named.{nameless, name_of, first_from, no_name
 ghost use Rattle.named_lines.specs.Table.{Row, row_of, row_put, row_settled};
 
 use codes::LinkKind;
-use line_words::Word;
+use line_words::{Word, next_word};
 use lines::line_at;
 use spelled::same_bytes;
 use std::marker::Model;
@@ -166,8 +166,25 @@ impl<'a> Table<'a> {
         None
     }
 
+    // Where the first word of the line from `at` on stands in it.
+    pub fn name_at(&self, at: usize) -> Word
+        requires { at ≤ length self.now.text }
+        ensures { result ≡ first_from self.now.text at }
+    {
+        next_word(line_from(self.text, at), 0)
+    }
+
+    // The line from `at` on, behind the others.
+    pub fn put(&mut self, at: usize, kind: Kind)
+        requires { (at ≤ length self.old.text) × (length self.old.lines < self.old.room) }
+        ensures { self.new ≡ with_line self.old at kind }
+    {
+        let name = self.name_at(at);
+        self.put_named(at, name, kind);
+    }
+
     // The line from `at` on, behind the others; its first word is the name, and was found with the others.
-    pub fn put(&mut self, at: usize, name: Word, kind: Kind)
+    pub fn put_named(&mut self, at: usize, name: Word, kind: Kind)
         requires room { (at ≤ length self.old.text) × (length self.old.lines < self.old.room) }
         requires name { name ≡ first_from self.old.text at }
         ensures { self.new ≡ with_line self.old at kind }
@@ -183,5 +200,25 @@ impl<'a> Table<'a> {
         ensures { self.new ≡ with_settled self.old j at }
     {
         settle(self.rows, j, at);
+    }
+}
+
+#[cfg(test)]
+mod tests {
+    use super::*;
+
+    // The name's place is found where none is handed in.
+    #[test]
+    fn put_finds_the_name(rt: HostRuntime) {
+        let text: &[u8] = b"  T1 30 ;name\n";
+        let mut rows = [NamedLine::default(); 2];
+        let mut table = Table::new(text, &mut rows);
+        let name = table.name_at(0);
+        assert_eq!(rt; name.start, 2);
+        assert_eq!(rt; name.end, 4);
+        table.put(0, Kind::Tank);
+        assert_eq!(rt; table.len(), 1);
+        assert!(rt; table.name(0) == b"T1".as_slice());
+        assert!(rt; !table.is_full());
     }
 }

@@ -3,7 +3,7 @@ use Prim.Native.Nat.{ℕ, ◌+◌, ◌*◌, ◌/◌, ◌%◌, ◌≤◌, ◌<◌
 use mathlib.Core.Path.{◌≡◌, refl, sym, ap, ◌∙◌}
 use mathlib.Core.List.{List}
 use mathlib.Core.Bool.{Bool, true, false, cond}
-use mathlib.Core.Logic.{◌⊎◌, ⊎_elim}
+use mathlib.Core.Logic.{◌⊎◌, inl, inr, ⊎_elim}
 use native.Mathlib.Omega.{arith}
 use borrow.Author.Tests.{le-ltb}
 use lib.Dec.{eqb}
@@ -27,12 +27,13 @@ use Rattle.conclusion.specs.Conclusion.{told, unsolved, delivered}
 use Rattle.solver.specs.Solve.{trials_of}
 use Rattle.held.specs.Held.{told_number, Held, state_in, damping_in, tally_in, answer_in, sums_of, counts_of, held_of, more, answered, refusal}
 use Rattle.held.specs.declared.Told.{Told}
-use Rattle.held.specs.declared.Told.TheVariants.{More, Answered}
+use Rattle.held.specs.declared.Told.TheVariants.{More, Answered, Refused}
 use Rattle.held.specs.declared.Taken.{Taken}
 use Rattle.held.proofs.Laws.{marks_back}
 use Rattle.turns.specs.Turns.{due, follows, next_turn}
 use Rattle.stepping.specs.Taking.{Took, unchanged, over, after_turn, take_turn, take_lent, take_read, take_with}
-use Rattle.stepwise.specs.Stepwise.{Adds, EachTrial, Repeats, Refuses, Short}
+use Rattle.held_start.specs.Start.{start_read, start_held}
+use Rattle.stepwise.specs.Stepwise.{Adds, EachTrial, OneOfThree, Tells, Repeats, Refuses, Short}
 use Rattle.std.specs.Prelude.{Err, None, Ok, Option, Some}
 use Rattle.std.proofs.Common.{Break, Continue}
 
@@ -170,7 +171,7 @@ module _ (repair : Repair) (s : List ℕ) (h : Held) (b : Lent) where
 pub repeats : Repeats
 unfolding take_with
 repeats repair s s' h b b' e =
-    let k = kept_take repair s h b (over h) refl (ap told_number e) in
+    let k = kept_take repair s h b (over h) refl e in
     rw k.over (ap (λ (t : Taken). unchanged t (take_with repair s h b).held b') k.same)
 
 -- ---- refusals
@@ -202,10 +203,50 @@ module _ (repair : Repair) (s : List ℕ) (h : Held) (b : Lent) where
 
 pub refuses : Refuses
 unfolding take_with
-refuses repair s h b e = refused_take repair s h b (over h) (ap told_number e)
+refuses repair s h b e = refused_take repair s h b (over h) e
 
 pub short : Short
 unfolding take_with take_read take_lent
 short repair s l h b place good first e =
     let same : take_with repair s h b ≡ unchanged (refusal 5 place) h b = rw (first, good, e) in
     (same, λ s' b'. ap (λ (o : Took). take_with repair s' o.held b') same)
+
+-- ---- what is told
+
+of_more : OneOfThree More
+of_more = inl refl
+
+of_answer : OneOfThree Answered
+of_answer = inr (inl refl)
+
+of_refusal : OneOfThree Refused
+of_refusal = inr (inr refl)
+
+tells_turn : (s : List ℕ) (l : Layout) (trials : ℕ) (d : Damping) (b : Lent) (u : Turned) (g : Going) → OneOfThree (after_turn s l trials d b u g).taken.how
+unfolding after_turn
+tells_turn s l trials d b u (Continue next) = of_more
+tells_turn s l trials d b u (Break z) = of_answer
+
+module _ (repair : Repair) (s : List ℕ) (h : Held) (b : Lent) where
+  tells_start : (r : Reading) → OneOfThree (start_read s h r).taken.how
+  unfolding start_read
+  tells_start (Err r) = of_refusal
+  tells_start (Ok l) = of_more
+
+  tells_lent : (l : Layout) (f : Option ℕ) → OneOfThree (take_lent repair s l h b f).taken.how
+  unfolding take_lent take_turn
+  tells_lent l (Some place) = of_refusal
+  tells_lent l None = let u = next_of repair s l h b in tells_turn s l (trials_of s) (damping_in h.sums) b u (follows (trials_of s) u.turn.tally u.turn.going)
+
+  tells_read : (r : Reading) → OneOfThree (take_read repair s h b r).taken.how
+  unfolding take_read
+  tells_read (Err r) = of_refusal
+  tells_read (Ok l) = tells_lent l (short_of s l b)
+
+  tells_take : (x : Bool) → OneOfThree (cond x (unchanged (answered (answer_in h.sums h.counts)) h b) (take_read repair s h b (read_of s))).taken.how
+  tells_take true = of_answer
+  tells_take false = tells_read (read_of s)
+
+pub tells : Tells
+unfolding start_held take_with
+tells repair s h b = (tells_start repair s h b (read_of s), tells_take repair s h b (over h))

@@ -7,7 +7,8 @@ use Rattle.entries.specs.Entries.{none, counted}
 use Rattle.marks.specs.Marks.{mark_of, put_of}
 use Rattle.answers.specs.Answers.{Lent, Enough, too_short}
 use Rattle.solver.specs.Solve.{trials_of, solve_with}
-use Rattle.held.specs.declared.Told.TheVariants.{Answered, Refused}
+use Rattle.held.specs.declared.Told.{Told}
+use Rattle.held.specs.declared.Told.TheVariants.{More, Answered, Refused}
 use Rattle.held.specs.Held.{Held, told_number, state_in, damping_in, tally_in, more, answered, refusal}
 use Rattle.turns.specs.Turns.{due}
 use Rattle.held_start.specs.Start.{start_held}
@@ -27,14 +28,22 @@ abbrev pub EachTrial : Type 0
 EachTrial = (repair : Repair) (s : List ℕ) (l : Layout) (h : Held) (b : Lent) → read_of s ≡ Ok l → Enough l (trials_of s) b → over h ≡ false → due (trials_of s) (tally_in h.counts) ≡ true
     → Adds (trial_with repair s l (damping_in h.sums) (state_in h)) h b (take_with repair s h b)
 
+-- more follow, the answer or a refusal, and no other number
+abbrev pub OneOfThree : Told → Type 0
+OneOfThree how = (how ≡ More) ⊎ (how ≡ Answered) ⊎ (how ≡ Refused)
+
+-- the start and each call tell one of these, whatever the sheet, what is held and the buffers
+abbrev pub Tells : Type 0
+Tells = (repair : Repair) (s : List ℕ) (h : Held) (b : Lent) → OneOfThree (start_held s h).taken.how × OneOfThree (take_with repair s h b).taken.how
+
 -- once the answer was told, every call tells it again and changes nothing, whatever the sheet and the buffers
 abbrev pub Repeats : Type 0
-Repeats = (repair : Repair) (s s' : List ℕ) (h : Held) (b b' : Lent) → (take_with repair s h b).taken.how ≡ Answered
+Repeats = (repair : Repair) (s s' : List ℕ) (h : Held) (b b' : Lent) → told_number (take_with repair s h b).taken.how ≡ 1
     → take_with repair s' (take_with repair s h b).held b' ≡ unchanged (take_with repair s h b).taken (take_with repair s h b).held b'
 
 -- a call that is refused changes nothing
 abbrev pub Refuses : Type 0
-Refuses = (repair : Repair) (s : List ℕ) (h : Held) (b : Lent) → (take_with repair s h b).taken.how ≡ Refused → ((take_with repair s h b).held ≡ h) × ((take_with repair s h b).lent ≡ b)
+Refuses = (repair : Repair) (s : List ℕ) (h : Held) (b : Lent) → told_number (take_with repair s h b).taken.how ≡ 2 → ((take_with repair s h b).held ≡ h) × ((take_with repair s h b).lent ≡ b)
 
 -- before the answer, too short a buffer is refused with 5 at its place, and the next call goes on as if that one had not been
 abbrev pub Short : Type 0

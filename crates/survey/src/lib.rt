@@ -7,7 +7,7 @@ ghost use Rattle.survey.specs.Surveyed.{surveyed_of};
 
 use known::{Knowledge, Progress, Refused};
 use line_faults::line_fault;
-use line_taking::take_line;
+use line_taking::take_named;
 use line_words::next_word;
 use lines::line_at;
 use named_lines::NamedLine;
@@ -56,7 +56,7 @@ fn read_lines(text: &[u8], known: &mut Knowledge<'_>) -> Result<(), Refused>
         if let Err(fault) = line_fault(known, &words) {
             return Err(Refused { fault, line });
         }
-        take_line(known, &words, name, at);
+        take_named(known, &words, name, at);
         let Some(next) = l.next else {
             return Ok(());
         };
@@ -77,4 +77,29 @@ pub fn survey<'a>(
     let mut known = Knowledge::new(text, nodes, links);
     let told = read_lines(text, &mut known);
     Findings { told, known }
+}
+
+#[cfg(test)]
+mod tests {
+    use super::*;
+    use line_taking::take_line;
+    use section_names::Section;
+
+    // The line's first word is found where its place is not handed in.
+    #[test]
+    #[tactic(auto, unfolding(named_lines::specs::Named::words_from))]
+    fn take_line_finds_the_name(rt: HostRuntime) {
+        let text: &[u8] = b"  R1 30";
+        let mut nodes = [NamedLine::default(); 512];
+        let mut links = [NamedLine::default(); 1024];
+        let mut known = Knowledge::new(text, &mut nodes, &mut links);
+        known.section = Section::Reservoirs;
+        let l = line_at(text, 0);
+        assert_eq!(rt; l.end, text.len());
+        let words = LineWords::of(&text[0..l.end]);
+        assert!(rt; line_fault(&known, &words).is_ok());
+        take_line(&mut known, &words, 0);
+        assert_eq!(rt; known.nodes.len(), 1);
+        assert!(rt; known.nodes.name(0) == b"R1".as_slice());
+    }
 }

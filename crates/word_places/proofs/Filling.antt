@@ -53,29 +53,17 @@ begins_on l k e (suc i) h =
 none_behind : (l : List ℕ) (k i : ℕ) → begins l k ≡ length l → k ≤ i → word_at l i ≡ none_in l
 none_behind l k i e h = word_from_lem l i ∙ ap (word_from l) (begins_on l k e i h) ∙ sym (past_the_end l (length l) (omega arith))
 
--- ---- the first k words are in their places, and none in the others
+-- ---- the first k words are in their places
 
 pub record Filled (l : List ℕ) (places : List Word) (at k : ℕ) : Type 0 where
   pub long : length places ≡ 10
   pub each : (i : ℕ) → i < k → get_or places i nowhere ≡ word_at l i
-  pub rest : (i : ℕ) → k ≤ i → i < 10 → get_or places i nowhere ≡ none_in l
   pub from : at ≡ begins l k
   pub few : k ≤ 10
 
-pub first : (l : List ℕ) (w : Word) → w ≡ word_from l 0 → Filled l (w ∷ replicate 9 (none_in l)) w.end 1
-unfolding begins word_at
-first l w is =
-    record {
-      long = refl;
-      each = λ i h. let z : i ≡ 0 = omega arith in rw z is;
-      rest = others;
-      from = ap (λ (v : Word). v.end) is;
-      few = omega arith;
-    }
-  where
-    others : (i : ℕ) → 1 ≤ i → i < 10 → get_or (w ∷ replicate 9 (none_in l)) i nowhere ≡ none_in l
-    others zero k h = absurd (omega arith)
-    others (suc j) k h = get_or-replicate 9 j (none_in l) nowhere (omega arith)
+pub first : (l : List ℕ) (places : List Word) → length places ≡ 10 → Filled l places 0 0
+unfolding begins
+first l places e = record { long = e; each = λ i h. absurd (omega arith); from = refl; few = omega arith }
 
 module _ {l : List ℕ} {places : List Word} {at k : ℕ} (p : Filled l places at k) where
   pub at_within : at ≤ length l
@@ -87,7 +75,6 @@ module _ {l : List ℕ} {places : List Word} {at k : ℕ} (p : Filled l places a
       record {
         long = length-set places k w ∙ p.long;
         each = λ i j. ⊎_elim (λ (q : i ≡ k). rw q this) (λ (q : i < k). other i q) (eq-or-lt_of_le (upto i j));
-        rest = λ i j m. get_or-set_other places k i w nowhere (λ r. omega arith) ∙ p.rest i (omega arith) m;
         from = ap (λ (v : Word). v.end) is ∙ ap (begins l) (sym (add-one k));
         few = omega arith;
       }
@@ -107,13 +94,34 @@ module _ {l : List ℕ} {places : List Word} {at k : ℕ} (p : Filled l places a
   pub all : 10 ≤ k → Words l places
   all h = record { long = p.long; each = λ i j. p.each i (omega arith) }
 
+-- ---- and none in the others
+
+pub record NoneBehind (l : List ℕ) (places : List Word) (at k : ℕ) : Type 0 where
+  pub filled : Filled l places at k
+  pub rest : (i : ℕ) → k ≤ i → i < 10 → get_or places i nowhere ≡ none_in l
+
+none_yet : (l : List ℕ) → NoneBehind l (replicate 10 (none_in l)) 0 0
+none_yet l = record { filled = first l _ refl; rest = λ i h j. get_or-replicate 10 i (none_in l) nowhere j }
+
+module _ {l : List ℕ} {places : List Word} {at k : ℕ} (p : NoneBehind l places at k) where
+  pub next_behind : k < 10 → (w : Word) → w ≡ word_from l at → NoneBehind l (set places k w) w.end (k + 1)
+  next_behind h w e =
+      record {
+        filled = next p.filled h w e;
+        rest = λ i j m. get_or-set_other places k i w nowhere (λ r. omega arith) ∙ p.rest i (omega arith) m;
+      }
+
   -- the next would be looked for at the end
   pub no_more : at ≡ length l → Words l places
-  no_more e = record { long = p.long; each = λ i j. go i j (ltb i k) refl }
+  no_more e = record { long = p.filled.long; each = λ i j. go i j (ltb i k) refl }
     where
       go : (i : ℕ) → i < 10 → (b : Bool) → ltb i k ≡ b → get_or places i nowhere ≡ word_at l i
-      go i j true f = p.each i (ltb-true i k f)
-      go i j false f = let q : k ≤ i = ltb-false i k f in p.rest i q j ∙ sym (none_behind l k i (sym p.from ∙ e) q)
+      go i j true f = p.filled.each i (ltb-true i k f)
+      go i j false f = let q : k ≤ i = ltb-false i k f in p.rest i q j ∙ sym (none_behind l k i (sym p.filled.from ∙ e) q)
+
+-- the word found first is in its place
+pub first_behind : (l : List ℕ) (w : Word) → w ≡ word_from l 0 → NoneBehind l (w ∷ replicate 9 (none_in l)) w.end 1
+first_behind l w is = next_behind (none_yet l) (omega arith) w is
 
 -- ---- read back
 

@@ -18,19 +18,19 @@ slice_bounds-bytes-end c = let here = first c.loop-fault.invariant _ c.line_at-l
 pub returns-in-Err-clause-told : goal.returns-in-Err-clause-told
 returns-in-Err-clause-told c = refused c.loop-fault.invariant _ c.line_at-l.ensures c.behind-words.ensures _ (sym c.line_fault.ensures ∙ c.in-Err.is)
 
-pub take_line-requires-clause-words : goal.take_line-requires-clause-words
-take_line-requires-clause-words c = words_are c.loop-fault.invariant _ c.line_at-l.ensures c.behind-words.ensures
+pub take_named-requires-clause-words : goal.take_named-requires-clause-words
+take_named-requires-clause-words c = words_are c.loop-fault.invariant _ c.line_at-l.ensures c.behind-words.ensures
 
-pub take_line-requires-clause-name : goal.take_line-requires-clause-name
-take_line-requires-clause-name c = name_is c.loop-fault.invariant _ c.line_at-l.ensures c.next_word-name.ensures
+pub take_named-requires-clause-name : goal.take_named-requires-clause-name
+take_named-requires-clause-name c = name_is c.loop-fault.invariant _ c.line_at-l.ensures c.next_word-name.ensures
 
 pub returns-in_default-next-clause-told : goal.returns-in_default-next-clause-told
 returns-in_default-next-clause-told c =
-    done c.loop-fault.invariant _ c.line_at-l.ensures c.behind-words.ensures (sym c.line_fault.ensures ∙ c.in_default.is) c.take_line.ensures c.in_default-next.is
+    done c.loop-fault.invariant _ c.line_at-l.ensures c.behind-words.ensures (sym c.line_fault.ensures ∙ c.in_default.is) c.take_named.ensures c.in_default-next.is
 
 pub loop-fault-smaller : goal.loop-fault-smaller
 loop-fault-smaller c = omega (arith, (first c.loop-fault.invariant _ c.line_at-l.ensures).further c.in-Some.next c.in-Some.is)
 
 pub loop-fault-preserved : goal.loop-fault-preserved
 loop-fault-preserved c =
-    onward c.loop-fault.invariant _ c.line_at-l.ensures c.behind-words.ensures (sym c.line_fault.ensures ∙ c.in_default.is) c.take_line.ensures c.in-Some.next c.in-Some.is
+    onward c.loop-fault.invariant _ c.line_at-l.ensures c.behind-words.ensures (sym c.line_fault.ensures ∙ c.in_default.is) c.take_named.ensures c.in-Some.next c.in-Some.is

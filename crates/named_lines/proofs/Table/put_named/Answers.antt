@@ -1,8 +1,8 @@
--- `named_lines::Table::put` meets its contract. Assumes nothing.
+-- `named_lines::Table::put_named` meets its contract. Assumes nothing.
 use Rattle.std.proofs.Common.{arith, refl}
 use Rattle.named_lines.proofs.Laws.{in_text, first_in, has_room, name_in_text, row_there, put_kept, put_names}
 use Rattle.named_lines.specs.Table.{row_put}
-use Rattle.named_lines.proofs.Table.put.Goals as goal
+use Rattle.named_lines.proofs.Table.put_named.Goals as goal
 
 pub overflow_add-at : goal.overflow_add-at
 overflow_add-at c =
